@@ -1,0 +1,5 @@
+pub mod Bits
+pub mod CheckByte
+pub mod Hexadecimal
+pub mod Parts
+pub mod SearchOrder
