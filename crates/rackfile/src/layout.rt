@@ -15,6 +15,7 @@ pub(crate) struct Sizes {
 }
 
 const LARGEST_COUNT: usize = 128;
+
 const LARGEST_WIDTH: usize = 12;
 
 impl Sizes {

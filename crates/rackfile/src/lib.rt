@@ -16,6 +16,10 @@ use std::alloc::Global;
 mod entries;
 mod flaws;
 mod layout;
+mod text;
+
+pub use text::RackFileDisplay;
+pub use text::report;
 
 // One pack: its address, and its name, which is printable ASCII.
 #[derive(Debug, Drop)]

@@ -1,0 +1,3 @@
+// The tests of the rack file's reader and its text.
+#[cfg(test)]
+mod tests;
