@@ -1,7 +1,9 @@
 // The check byte of bytes.
 ghost use mathlib.Core.Path.{_≡_};
+ghost use Rattle.std.specs.Joined.{joined};
 ghost use Rattle.address.specs.Bits.{bit, bits};
 ghost use Rattle.address.specs.CheckByte.{Register, shifted, fed, byteOf, stages, checkByte};
+ghost use Rattle.address.specs.Division.{Remainder};
 
 // X^5 + X^4 + 1 as the register has it, with the coefficient of X^0 in the highest bit.
 const FEEDBACK: u8 = 0x8C;
@@ -29,9 +31,11 @@ fn feed(register: u8, byte: u8) -> u8
     register
 }
 
-// The check byte of these bytes: of an address's first seven, the one that makes it right.
+// The check byte of these bytes: of an address's first seven, the one that makes it right. It is also
+// what their division by X^8 + X^5 + X^4 + 1 leaves.
 pub fn check_byte_of(bytes: &[u8]) -> u8
-    ensures { λ r. ⌜ r ≡ checkByte (now (bytes .entry)) ⌝ }
+    ensures value { λ r. ⌜ r ≡ checkByte (now (bytes .entry)) ⌝ }
+    ensures division { λ r. ⌜ Remainder (joined bits (now (bytes .entry))) (stages r) ⌝ }
 {
     let mut register = 0;
     for byte in bytes {

@@ -2,6 +2,7 @@
 ghost use mathlib.Core.Path.{_≡_};
 ghost use mathlib.Core.List.{_∷_, []};
 ghost use Prim.Native.Nat.{_<_};
+ghost use denote.Ref.{now};
 ghost use Rattle.std.specs.declared.option.Option.the-variants.{Some};
 ghost use Rattle.address.specs.Hexadecimal.{hexDigit, hexByte, hexadecimal};
 ghost use Rattle.address.specs.Parts.{number, sent};
@@ -12,8 +13,21 @@ pub impl fmt::Display for Address as AddressDisplay {
     ghost shown = { λ a. Some (hexadecimal (sent (number a))) };
 
     fn fmt<W: fmt::Write>(&self, f: &mut fmt::Formatter<W>) -> fmt::Result {
-        for byte in self.to_bytes() {
-            write!(f, "{}", HexByte(byte))?;
+        let bytes = self.to_bytes();
+        write!(f, "{}", Hex(&bytes))
+    }
+}
+
+// Bytes as hexadecimal digits, in their order.
+#[derive(Clone, Copy)]
+struct Hex<'a>(&'a [u8]);
+
+impl fmt::Display for Hex<'_> as HexDisplay {
+    ghost shown = { λ bytes. Some (hexadecimal (now (bytes .0))) };
+
+    fn fmt<W: fmt::Write>(&self, f: &mut fmt::Formatter<W>) -> fmt::Result {
+        for byte in self.0 {
+            write!(f, "{}", HexByte(*byte))?;
         }
         Ok(())
     }

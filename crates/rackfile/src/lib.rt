@@ -113,6 +113,6 @@ pub impl From<AllocError> for Refusal as RefusalFromAllocError {
     ghost converts = { λ _ r. r ≡ Memory };
 
     fn from(_: AllocError) -> Refusal {
-        Refusal::Memory
+        Self::Memory
     }
 }

@@ -1,9 +1,12 @@
 // A rack file as text.
+ghost use mathlib.Core.List.{map};
+ghost use denote.Ref.{now};
 ghost use Rattle.std.specs.declared.option.Option.the-variants.{Some};
 ghost use Rattle.std.specs.Of.String.{string-bytes};
 ghost use Rattle.std.specs.Vec.{made};
-ghost use Rattle.rackfile.specs.Files.{widthOf, entriesOf};
-ghost use Rattle.rackfile.specs.Reports.{figures, table, Reported};
+ghost use Rattle.rackfile.specs.Files.{listed, widthOf, entriesOf};
+ghost use Rattle.rackfile.specs.Reports.{figures, lines, table, Reported};
+use crate::Entry;
 use crate::RackFile;
 use crate::Refusal;
 use address::AddressDisplay;
@@ -32,13 +35,41 @@ pub impl fmt::Display for RackFile as RackFileDisplay {
     ghost shown = { λ r. Some (table (widthOf r) (entriesOf r)) };
 
     fn fmt<W: fmt::Write>(&self, f: &mut fmt::Formatter<W>) -> fmt::Result {
-        write!(
-            f,
-            "rack {} width {}\n",
-            Figures(self.entries.len()),
-            Figures(self.width)
-        )?;
-        for (index, entry) in self.entries.iter().enumerate() {
+        let table = Table {
+            width: self.width,
+            entries: self.entries.as_slice(),
+        };
+        write!(f, "{table}")
+    }
+}
+
+// How many entries there are, how many bytes a name has, and the lines.
+#[derive(Clone, Copy)]
+struct Table<'a> {
+    width: usize,
+    entries: &'a [Entry],
+}
+
+impl fmt::Display for Table<'_> as TableDisplay {
+    ghost shown = { λ t. Some (table (t .width) (map listed (now (t .entries)))) };
+
+    fn fmt<W: fmt::Write>(&self, f: &mut fmt::Formatter<W>) -> fmt::Result {
+        let count = Figures(self.entries.len());
+        let width = Figures(self.width);
+        let lines = Lines(self.entries);
+        write!(f, "rack {count} width {width}\n{lines}")
+    }
+}
+
+// A line for each entry; places count from 1.
+#[derive(Clone, Copy)]
+struct Lines<'a>(&'a [Entry]);
+
+impl fmt::Display for Lines<'_> as LinesDisplay {
+    ghost shown = { λ es. Some (lines 1 (map listed (now (es .0)))) };
+
+    fn fmt<W: fmt::Write>(&self, f: &mut fmt::Formatter<W>) -> fmt::Result {
+        for (index, entry) in self.0.iter().enumerate() {
             write!(
                 f,
                 "{} {} {}\n",

@@ -1,11 +1,13 @@
-use mathlib.Core.Path.{_≡_, ap, sym, _∙_}
+use mathlib.Core.Path.{_≡_, ap, sym, subst, _∙_}
 use mathlib.Core.List.{List}
 use Prim.Native.Nat.{ℕ, _+_}
 use lib.ListN.{drop}
 use Rattle.std.specs.Joined.{joined}
 use Rattle.std.proofs.shelf.Lists.{drop-all}
 use Rattle.address.specs.Bits.{bits}
-use Rattle.address.specs.CheckByte.{fed, stages, byteOf, checkByte}
+use Rattle.address.specs.CheckByte.{fed, stages, byteOf, cleared, checkByte}
+use Rattle.address.specs.Division.{Remainder}
+use Rattle.address.proofs.Division.{remainder}
 use Rattle.address.proofs.Registers.{fed-byte, fed-none, byteOf-stages}
 use Rattle.address.proofs.check_byte.check_byte_of.Needs as need
 
@@ -25,8 +27,11 @@ unfolding checkByte
 returns c =
     let n = c .loop-byte .register in
     let bytes = c .args .bytes .now in
-    sym (byteOf-stages n (c .loop-byte .inv .0))
-    ∙ ap byteOf
-    (sym (fed-none (stages n))
+    let all : stages n ≡ fed (joined bits bytes) cleared =
+    sym (fed-none (stages n))
     ∙ ap (λ (bs : List ℕ). fed (joined bits bs) (stages n)) (sym (drop-all (c .loop-byte .byte-index) bytes (c .loop-byte-test .left)))
-    ∙ c .loop-byte .inv .1)
+    ∙ c .loop-byte .inv .1 in
+    record {
+      value = sym (byteOf-stages n (c .loop-byte .inv .0)) ∙ ap byteOf all;
+      division = subst (Remainder (joined bits bytes)) (sym all) (remainder (joined bits bytes));
+    }

@@ -2,7 +2,7 @@ use mathlib.Core.Path.{_≡_}
 use lib.ListN.{take}
 use Rattle.std.specs.Written.{Plain, Put}
 use Rattle.address.specs.Hexadecimal.{hexadecimal}
-use Rattle.address.proofs.hexadecimal.AddressDisplay.fmt.Given as given
+use Rattle.address.proofs.hexadecimal.HexDisplay.fmt.Given as given
 
 -- the bytes so far are written
 abbrev pub Inv-loop-byte : given.InvT-loop-byte

@@ -3,7 +3,7 @@ use lib.ListN.{take}
 use Rattle.std.specs.Written.{Plain, Put}
 use Rattle.rackfile.specs.Files.{listed}
 use Rattle.rackfile.specs.Reports.{lines}
-use Rattle.rackfile.proofs.text.RackFileDisplay.fmt.Given as given
+use Rattle.rackfile.proofs.text.LinesDisplay.fmt.Given as given
 
 -- the lines of the entries so far are written
 abbrev pub Inv-loop-index : given.InvT-loop-index

@@ -14,24 +14,24 @@ use Rattle.rackfile.specs.declared.Entry.{Entry}
 use Rattle.rackfile.specs.Files.{listed, widthOf}
 use Rattle.rackfile.specs.Reports.{figures, line, lines, heading}
 use Rattle.rackfile.proofs.Lines.{lines-none, lines-more}
-use Rattle.rackfile.proofs.text.RackFileDisplay.fmt.Needs as need
+use Rattle.rackfile.proofs.text.LinesDisplay.fmt.Needs as need
 
 pub loop-index-holds : need.loop-index-holds
 loop-index-holds g c = λ plain.
     let took = g .W·Write .took in
-    let f = c .write .last .self in
+    let f = c .args .f .now in
     put-is took f [] (lines 1 []) f (sym (lines-none 1)) (record { wrote = wrote-none took (f .writer); plain = plain })
 
 pub loop-index-again : need.loop-index-again
 unfolding line
 loop-index-again g c = λ plain.
     let took = g .W·Write .took in
-    let es = c .deref-entry-items .result .now in
+    let es = c .args .self .now .0 .now in
     let i = c .loop-index .index in
     let e = c .entry-item .result in
     let h : i < length es = c .loop-index-test .taken in
     let before = c .loop-index .inv plain in
-    let one = c .write-in-loop-index .ensures .shows (before .plain) (ap isOk (c .in-Continue-write-2 .was tt)) in
+    let one = c .write .ensures .shows (before .plain) (ap isOk (c .in-Continue-write .was tt)) in
     let spelled : figures (i + 1) ++ (codes " " ++ (hexadecimal (sent (number (e .address))) ++ (codes " " ++ (c .as-str .result .now ++ codes "\n")))) ≡ line (i + 1) (listed (getD es i e)) =
     ap (λ (name : List ℕ). figures (i + 1) ++ (codes " " ++ (hexadecimal (sent (number (e .address))) ++ (codes " " ++ (name ++ codes "\n"))))) (c .as-str .ensures .value)
     ∙ ap (λ (x : Entry). line (i + 1) (listed x)) (c .entry-item .is) in
@@ -39,15 +39,7 @@ loop-index-again g c = λ plain.
     (put-more took _ _ _ _ _ before one)
 
 pub returns : need.returns
-unfolding heading
 returns g c = λ plain _.
-    let took = g .W·Write .took in
-    let es = c .deref-entry-items .result .now in
-    let items = vec-items (c .args .self .now .entries) in
-    let i = c .loop-index .index in
-    let first = c .write .ensures .shows plain (ap isOk (c .in-Continue-write .was tt)) in
-    let rest = c .loop-index .inv (first .plain) in
-    let all : map listed (take i es) ≡ map listed items = ap (map listed) (take-all i es (c .loop-index-test .left) ∙ c .deref-entry-items .ensures .value) in
-    let count : c .len .result ≡ length (map listed items) =
-    c .len .ensures ∙ c .args .self .now .entries .ok .0 ∙ sym (length-map items listed) in
-    put-is took _ _ _ _ (λ j. heading (count j) (widthOf (c .args .self .now)) ++ lines 1 (all j)) (put-more took _ _ _ _ _ first rest)
+    let es = c .args .self .now .0 .now in
+    put-is (g .W·Write .took) _ _ _ _ (ap (λ (l : List Entry). lines 1 (map listed l)) (take-all (c .loop-index .index) es (c .loop-index-test .left)))
+    (c .loop-index .inv plain)
