@@ -8,8 +8,6 @@ ghost use Rattle.address.specs.Parts.{number, family, serialNumber, topByte, s
 mod check_byte;
 mod hexadecimal;
 mod search_order;
-#[cfg(test)]
-mod tests;
 
 pub use check_byte::check_byte_of;
 pub use hexadecimal::AddressDisplay;
@@ -114,3 +112,6 @@ fn bit_of(bits: u64, k: u32) -> bool
 {
     k < 64 && (bits >> k) % 2 == 1
 }
+
+#[cfg(test)]
+mod tests;

@@ -68,6 +68,10 @@ Sound f = (e : Refusal) → Cause f e → ⊥
 abbrev pub First : List ℕ → Refusal → Type 0
 First f e = Cause f e × ((d : Refusal) → turn d < turn e → Cause f d → ⊥)
 
+-- no two refusals are first
+abbrev pub OneFirst : List ℕ → Type 0
+OneFirst f = (d e : Refusal) → First f d → First f e → d ≡ e
+
 -- what a refusal says of the file: it is the first cause, or the file is sound and memory ran out
 abbrev pub Refused : List ℕ → Refusal → Type 0
 Refused f Malformed = First f Malformed

@@ -4,7 +4,7 @@ ghost use Rattle.std.specs.Results.{Cases};
 ghost use mathlib.Core.List.{map};
 ghost use Rattle.rackfile.specs.declared.Refusal.the-variants.{Memory};
 ghost use Rattle.rackfile.specs.Files.{count, width, WellFormed, listed, widthOf, entriesOf};
-ghost use Rattle.rackfile.specs.Refusals.{numberOf, First, Refused, Sound, Holds};
+ghost use Rattle.rackfile.specs.Refusals.{numberOf, First, OneFirst, Refused, Sound, Holds};
 use address::Address;
 use address::AddressDebug;
 use entries::read_entries;
@@ -73,7 +73,8 @@ impl Refusal {
 impl RackFile {
     // The rack file that these bytes are, or the first refusal.
     pub fn read(heap: Global, bytes: &[u8]) -> Result<RackFile, Refusal>
-        ensures { λ r. ⌜ Cases r (λ file. Holds (now (bytes .entry)) file) (λ e. Refused (now (bytes .entry)) e) ⌝ }
+        ensures cases { λ r. ⌜ Cases r (λ file. Holds (now (bytes .entry)) file) (λ e. Refused (now (bytes .entry)) e) ⌝ }
+        ensures law { λ _. ⌜ OneFirst (now (bytes .entry)) ⌝ }
     {
         let sizes = checked(bytes)?;
         let entries = read_entries(heap, bytes, sizes)?;
@@ -100,7 +101,8 @@ impl RackFile {
 
 // The sizes of a file that is sound, or the first refusal.
 fn checked(bytes: &[u8]) -> Result<Sizes, Refusal>
-    ensures { λ r. ⌜ Cases r (λ s. WellFormed (now (bytes .entry)) × Sound (now (bytes .entry)) × (s .count ≡ count (now (bytes .entry))) × (s .width ≡ width (now (bytes .entry)))) (λ e. First (now (bytes .entry)) e) ⌝ }
+    ensures cases { λ r. ⌜ Cases r (λ s. WellFormed (now (bytes .entry)) × Sound (now (bytes .entry)) × (s .count ≡ count (now (bytes .entry))) × (s .width ≡ width (now (bytes .entry)))) (λ e. First (now (bytes .entry)) e) ⌝ }
+    ensures law { λ _. ⌜ OneFirst (now (bytes .entry)) ⌝ }
 {
     let Some(sizes) = Sizes::read(bytes) else {
         return Err(Refusal::Malformed);
