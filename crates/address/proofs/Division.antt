@@ -1,12 +1,12 @@
 -- A bit that is shifted in carries the division on by one place. Assumes nothing.
 use mathlib.Core.Path.{_≡_, refl, ap, sym, _∙_}
-use mathlib.Core.Bool.{Bool, true, false, not, _&&_, Bool·beq}
+use mathlib.Core.Bool.{Bool, true, false, _&&_, Bool·beq}
 use mathlib.Core.List.{List, [], _∷_}
 use Prim.Native.Nat.{ℕ, zero, suc}
 use lib.ListN.{getD, replicate}
 use Rattle.std.proofs.shelf.Tests.{and-parts}
 use Rattle.address.specs.CheckByte.{Register, xor, cleared, feedback, shifted, fed}
-use Rattle.address.specs.Division.{next, onto, polynomial, raised, multiple, held, Remainder}
+use Rattle.address.specs.Division.{next, onto, raised, multiple, held, Remainder}
 
 -- ---- exclusive or
 

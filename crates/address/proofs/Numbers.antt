@@ -8,7 +8,7 @@ use native.Mathlib.Omega.{arith}
 use borrow.Author.Count.{below-more}
 use lib.Dec.{eqb}
 use lib.Pow.{mod-pow-add}
-use Rattle.std.proofs.shelf.Tests.{cases-bool, eqb-true, eqb-false}
+use Rattle.std.proofs.shelf.Tests.{eqb-true, eqb-false}
 use Rattle.address.specs.Bits.{bit}
 use Rattle.address.specs.SearchOrder.{Agree}
 

@@ -1,5 +1,5 @@
 -- The check byte: what the shift register of X^8 + X^5 + X^4 + 1 holds once every bit went in. Assumes nothing.
-use mathlib.Core.Bool.{Bool, true, false, cond, not}
+use mathlib.Core.Bool.{Bool, true, false, not}
 use mathlib.Core.List.{List, [], _∷_}
 use Prim.Native.Nat.{ℕ, _+_, _*_}
 use Rattle.std.specs.Joined.{joined}

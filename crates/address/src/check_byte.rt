@@ -2,7 +2,7 @@
 ghost use mathlib.Core.Path.{_≡_};
 ghost use Rattle.std.specs.Joined.{joined};
 ghost use Rattle.address.specs.Bits.{bit, bits};
-ghost use Rattle.address.specs.CheckByte.{Register, shifted, fed, byteOf, stages, checkByte};
+ghost use Rattle.address.specs.CheckByte.{shifted, fed, byteOf, stages, checkByte};
 ghost use Rattle.address.specs.Division.{Remainder};
 
 // X^5 + X^4 + 1 as the register has it, with the coefficient of X^0 in the highest bit.

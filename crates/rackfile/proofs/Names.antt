@@ -1,8 +1,7 @@
 -- The names of a sound rack file are text. Assumes nothing.
-use mathlib.Core.Path.{_≡_, subst, sym}
 use mathlib.Core.List.{List}
 use mathlib.Core.Logic.{inr, ⊎-elim}
-use Prim.Native.Nat.{ℕ, _<_, _≤_}
+use Prim.Native.Nat.{ℕ, _<_}
 use native.Mathlib.Omega.{arith}
 use lib.ListN.{length, getD}
 use Rattle.std.specs.Text.{Utf8, Ascii}

@@ -1,5 +1,4 @@
 -- Where a well-formed rack file has what. Assumes nothing.
-use mathlib.Core.Path.{_≡_, sym}
 use mathlib.Core.List.{List}
 use Prim.Native.Nat.{ℕ, _+_, _*_, _<_, _≤_}
 use native.Mathlib.Nat.{mul-le-mul-left, mul-add, mul-comm}

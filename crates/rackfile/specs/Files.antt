@@ -9,6 +9,7 @@ use Rattle.std.specs.Of.Vec.{vec-items}
 use Rattle.address.specs.Parts.{number, received}
 use Rattle.rackfile.specs.declared.Entry.{Entry}
 use Rattle.rackfile.specs.declared.RackFile.{RackFile}
+use Rattle.rackfile.specs.declared.layout.Sizes.{Sizes}
 
 -- how many entries the file says it has: its first byte
 abbrev pub count : List ℕ → ℕ
@@ -24,6 +25,12 @@ pub record WellFormed (f : List ℕ) : Type 0 where
   pub named : 1 ≤ width f
   pub short : width f ≤ 12
   pub whole : length f ≡ 2 + count f * (8 + width f)
+
+-- the file is well-formed, and these are its sizes
+pub record Measured (f : List ℕ) (s : Sizes) : Type 0 where
+  pub form : WellFormed f
+  pub counted : s .count ≡ count f
+  pub wide : s .width ≡ width f
 
 -- the address of entry i: the addresses begin behind the two sizes
 abbrev pub addressAt : List ℕ → ℕ → ℕ

@@ -4,7 +4,7 @@ ghost use mathlib.Core.Path.{_≡_};
 ghost use Prim.Native.Nat.{_<_};
 ghost use Rattle.std.specs.Of.Vec.{vec-items};
 ghost use Rattle.std.specs.Vec.{made};
-ghost use Rattle.rackfile.specs.Files.{count, width, WellFormed, entryIn, entriesIn, listed};
+ghost use Rattle.rackfile.specs.Files.{Measured, entryIn, entriesIn, listed};
 ghost use Rattle.rackfile.specs.Refusals.{Sound};
 use crate::Entry;
 use crate::layout::Sizes;
@@ -15,9 +15,7 @@ use std::alloc::Global;
 
 // One entry.
 fn read_entry(heap: Global, bytes: &[u8], sizes: Sizes, index: usize) -> Result<Entry, AllocError>
-    requires form { ⌜ WellFormed (now bytes) ⌝ }
-    requires count { ⌜ sizes .count ≡ count (now bytes) ⌝ }
-    requires width { ⌜ sizes .width ≡ width (now bytes) ⌝ }
+    requires sizes { ⌜ Measured (now bytes) sizes ⌝ }
     requires sound { ⌜ Sound (now bytes) ⌝ }
     requires within { ⌜ index < sizes .count ⌝ }
     ensures { λ r. ⌜ made r (λ e. listed e ≡ entryIn (now (bytes .entry)) index) ⌝ }
@@ -36,9 +34,7 @@ pub(crate) fn read_entries(
     bytes: &[u8],
     sizes: Sizes,
 ) -> Result<Vec<Entry>, AllocError>
-    requires form { ⌜ WellFormed (now bytes) ⌝ }
-    requires count { ⌜ sizes .count ≡ count (now bytes) ⌝ }
-    requires width { ⌜ sizes .width ≡ width (now bytes) ⌝ }
+    requires sizes { ⌜ Measured (now bytes) sizes ⌝ }
     requires sound { ⌜ Sound (now bytes) ⌝ }
     ensures { λ r. ⌜ made r (λ v. map listed (vec-items v) ≡ entriesIn (now (bytes .entry))) ⌝ }
 {

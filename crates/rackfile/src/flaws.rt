@@ -5,7 +5,7 @@ ghost use lib.ListN.{length};
 ghost use Rattle.std.specs.Orderings.{Decides};
 ghost use Rattle.std.specs.Results.{Cases};
 ghost use Rattle.rackfile.specs.declared.Flaw.the-variants.{RepeatedAddress};
-ghost use Rattle.rackfile.specs.Files.{count, width, WellFormed};
+ghost use Rattle.rackfile.specs.Files.{Measured};
 ghost use Rattle.rackfile.specs.Refusals.{flawNumber, Unprintable, Has, FirstFlaw, Sound, First};
 use crate::Flaw;
 use crate::Refusal;
@@ -55,9 +55,7 @@ fn has_unprintable(name: &[u8]) -> bool
 
 // The first flaw of an entry, or none.
 fn flaw_of(bytes: &[u8], sizes: Sizes, index: usize) -> Option<Flaw>
-    requires form { ⌜ WellFormed (now bytes) ⌝ }
-    requires count { ⌜ sizes .count ≡ count (now bytes) ⌝ }
-    requires width { ⌜ sizes .width ≡ width (now bytes) ⌝ }
+    requires sizes { ⌜ Measured (now bytes) sizes ⌝ }
     requires within { ⌜ index < sizes .count ⌝ }
     ensures { λ r. ⌜ FirstFlaw (now (bytes .entry)) index r ⌝ }
 {
@@ -75,9 +73,7 @@ fn flaw_of(bytes: &[u8], sizes: Sizes, index: usize) -> Option<Flaw>
 
 // Refuses a file by the first flaw of the first entry that has one.
 pub(crate) fn check_entries(bytes: &[u8], sizes: Sizes) -> Result<(), Refusal>
-    requires form { ⌜ WellFormed (now bytes) ⌝ }
-    requires count { ⌜ sizes .count ≡ count (now bytes) ⌝ }
-    requires width { ⌜ sizes .width ≡ width (now bytes) ⌝ }
+    requires { ⌜ Measured (now bytes) sizes ⌝ }
     ensures { λ r. ⌜ Cases r (λ _. Sound (now (bytes .entry))) (λ e. First (now (bytes .entry)) e) ⌝ }
 {
     for index in 0..sizes.count {

@@ -4,7 +4,7 @@ ghost use Prim.Native.Nat.{_+_, _*_, _<_, _≤_};
 ghost use lib.ListN.{length};
 ghost use Rattle.std.specs.Options as options;
 ghost use Rattle.address.specs.Parts.{number};
-ghost use Rattle.rackfile.specs.Files.{count, width, WellFormed, addressAt, nameAt};
+ghost use Rattle.rackfile.specs.Files.{WellFormed, Measured, addressAt, nameAt};
 use address::Address;
 
 // How many entries there are, and how many bytes a name has.
@@ -21,7 +21,7 @@ const LARGEST_WIDTH: usize = 12;
 impl Sizes {
     // The sizes of a well-formed file, or none.
     pub(crate) fn read(bytes: &[u8]) -> Option<Sizes>
-        ensures { λ r. ⌜ options.Cases r (WellFormed (now (bytes .entry)) → ⊥) (λ s. WellFormed (now (bytes .entry)) × (s .count ≡ count (now (bytes .entry))) × (s .width ≡ width (now (bytes .entry)))) ⌝ }
+        ensures { λ r. ⌜ options.Cases r (WellFormed (now (bytes .entry)) → ⊥) (Measured (now (bytes .entry))) ⌝ }
     {
         if bytes.len() < 2 {
             return None;
@@ -51,9 +51,7 @@ pub(crate) fn address_at(bytes: &[u8], index: usize) -> Address
 
 // The name of an entry.
 pub(crate) fn name_at(bytes: &[u8], sizes: Sizes, index: usize) -> &[u8]
-    requires form { ⌜ WellFormed (now bytes) ⌝ }
-    requires count { ⌜ sizes .count ≡ count (now bytes) ⌝ }
-    requires width { ⌜ sizes .width ≡ width (now bytes) ⌝ }
+    requires sizes { ⌜ Measured (now bytes) sizes ⌝ }
     requires within { ⌜ index < sizes .count ⌝ }
     ensures { λ r. ⌜ now r ≡ nameAt (now (bytes .entry)) index ⌝ }
 {

@@ -3,7 +3,7 @@ ghost use mathlib.Core.Path.{_≡_};
 ghost use Rattle.std.specs.Results.{Cases};
 ghost use mathlib.Core.List.{map};
 ghost use Rattle.rackfile.specs.declared.Refusal.the-variants.{Memory};
-ghost use Rattle.rackfile.specs.Files.{count, width, WellFormed, listed, widthOf, entriesOf};
+ghost use Rattle.rackfile.specs.Files.{Measured, listed, widthOf, entriesOf};
 ghost use Rattle.rackfile.specs.Refusals.{numberOf, First, OneFirst, Refused, Sound, Holds};
 use address::Address;
 use address::AddressDebug;
@@ -101,7 +101,7 @@ impl RackFile {
 
 // The sizes of a file that is sound, or the first refusal.
 fn checked(bytes: &[u8]) -> Result<Sizes, Refusal>
-    ensures cases { λ r. ⌜ Cases r (λ s. WellFormed (now (bytes .entry)) × Sound (now (bytes .entry)) × (s .count ≡ count (now (bytes .entry))) × (s .width ≡ width (now (bytes .entry)))) (λ e. First (now (bytes .entry)) e) ⌝ }
+    ensures cases { λ r. ⌜ Cases r (λ s. Measured (now (bytes .entry)) s × Sound (now (bytes .entry))) (λ e. First (now (bytes .entry)) e) ⌝ }
     ensures law { λ _. ⌜ OneFirst (now (bytes .entry)) ⌝ }
 {
     let Some(sizes) = Sizes::read(bytes) else {

@@ -1,5 +1,5 @@
 use mathlib.Core.Path.{_≡_, subst, sym, _∙_}
-use Prim.Native.Nat.{ℕ, _<_}
+use Prim.Native.Nat.{_<_}
 use native.Mathlib.Omega.{arith}
 use Rattle.std.specs.Of.String.{string-bytes}
 use Rattle.std.specs.Text.{Utf8}

@@ -1,4 +1,3 @@
-use mathlib.Core.Path.{_≡_}
 use lib.ListN.{take}
 use Rattle.std.specs.Written.{Plain, Put}
 use Rattle.address.specs.Hexadecimal.{hexadecimal}

@@ -1,18 +1,16 @@
 use mathlib.Core.Path.{_≡_, ap, sym, _∙_}
 use mathlib.Core.List.{List, [], _++_, map}
-use Prim.Native.Nat.{ℕ, _+_, _<_, _≤_}
-use native.Mathlib.Omega.{arith}
+use Prim.Native.Nat.{ℕ, _+_, _<_}
 use lib.Chars.{codes}
 use lib.ListN.{length, getD, take}
-use Rattle.std.specs.Of.Vec.{vec-items, vec-len}
 use Rattle.std.specs.Results.{isOk}
 use Rattle.std.proofs.Writes.{put-more, put-is, wrote-none}
-use Rattle.std.proofs.shelf.Lists.{length-map, take-all}
+use Rattle.std.proofs.shelf.Lists.{take-all}
 use Rattle.address.specs.Hexadecimal.{hexadecimal}
 use Rattle.address.specs.Parts.{number, sent}
 use Rattle.rackfile.specs.declared.Entry.{Entry}
-use Rattle.rackfile.specs.Files.{listed, widthOf}
-use Rattle.rackfile.specs.Reports.{figures, line, lines, heading}
+use Rattle.rackfile.specs.Files.{listed}
+use Rattle.rackfile.specs.Reports.{figures, line, lines}
 use Rattle.rackfile.proofs.Lines.{lines-none, lines-more}
 use Rattle.rackfile.proofs.text.LinesDisplay.fmt.Needs as need
 

@@ -6,7 +6,7 @@ use lib.ListN.{length}
 use Rattle.std.proofs.Writes.{put-is}
 use Rattle.std.proofs.shelf.Lists.{length-map}
 use Rattle.rackfile.specs.Files.{listed}
-use Rattle.rackfile.specs.Reports.{figures, lines, heading, table}
+use Rattle.rackfile.specs.Reports.{figures, lines, heading}
 use Rattle.rackfile.proofs.text.TableDisplay.fmt.Needs as need
 
 regrouped : (a b c d e l : List ℕ) → a ++ (b ++ (c ++ (d ++ (e ++ l)))) ≡ (a ++ (b ++ (c ++ (d ++ e)))) ++ l
