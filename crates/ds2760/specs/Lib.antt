@@ -1,0 +1,4 @@
+pub mod Soundness
+pub mod States
+pub mod Meaning
+pub mod Map

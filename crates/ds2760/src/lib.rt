@@ -1,0 +1,6 @@
+// A simulated DS2760's memory: what a chosen pack does with slots, ticks and measurements.
+mod memory;
+mod progress;
+mod store;
+
+pub use store::Store;

@@ -1,0 +1,5 @@
+pub mod Measures
+pub mod Held
+pub mod Registers
+pub mod Charges
+pub mod Cases
