@@ -2,3 +2,4 @@ pub mod Soundness
 pub mod States
 pub mod Meaning
 pub mod Map
+pub mod Commands

@@ -27,3 +27,9 @@ abbrev pub copies : Bool → Bool → Copying → Bool
 copies locked0 locked1 No = true
 copies locked0 locked1 (Waiting block) = not (flagOf locked0 locked1 block)
 copies locked0 locked1 (Running block ticks) = not (flagOf locked0 locked1 block) && (leb 1 ticks && leb ticks 10)
+
+-- a copy waits for its start
+abbrev pub waits : Copying → Bool
+waits No = false
+waits (Waiting block) = true
+waits (Running block ticks) = false

@@ -46,7 +46,7 @@ impl Store {
     }
 
     // EEC: whether a copy runs.
-    fn is_copying(&self) -> bool
+    pub(crate) fn is_copying(&self) -> bool
         ensures { λ r. ⌜ r ≡ eec (stateOf (now (self .entry)) .copying) ⌝ }
     {
         matches!(self.copying, Copying::Running { .. })
