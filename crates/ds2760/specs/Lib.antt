@@ -3,3 +3,4 @@ pub mod States
 pub mod Meaning
 pub mod Map
 pub mod Commands
+pub mod Runs

@@ -3,10 +3,12 @@ ghost use mathlib.Core.Path.{_≡_};
 ghost use mathlib.Core.Bool.{false};
 ghost use Rattle.ds2760.specs.declared.progress.Copying.the-variants.{No};
 ghost use Rattle.ds2760.specs.Map.{eec};
+ghost use Rattle.ds2760.specs.Runs.{Follows, tick};
 ghost use Rattle.ds2760.specs.Soundness.{waits};
 ghost use Rattle.ds2760.specs.States.{withCopying};
 ghost use Rattle.ds2760.specs.Commands.{replaced, recalled, copied, locked, isLocked, blockOf, copyAsked, recallAsked, lockAsked, started, ticked, recalledStatus};
 ghost use Rattle.ds2760.specs.Meaning.{stateOf};
+use crate::laws::laws;
 use crate::progress::Block;
 use crate::progress::Copying;
 use crate::store::Store;
@@ -123,6 +125,15 @@ impl Store {
 
     // Lets a tick pass: the tenth of a copy makes it.
     pub fn tick(&mut self)
+        ensures after { λ _. ⌜ stateOf (now (self .exit)) ≡ ticked (stateOf (now (self .entry))) ⌝ }
+        ensures lawful { λ _. ⌜ Follows tick (stateOf (now (self .entry))) (stateOf (now (self .exit))) ⌝ }
+    {
+        laws();
+        self.count_down();
+    }
+
+    // Takes a tick from a copy that runs.
+    fn count_down(&mut self)
         ensures { λ _. ⌜ stateOf (now (self .exit)) ≡ ticked (stateOf (now (self .entry))) ⌝ }
     {
         if let Copying::Running { block, ticks } = self.copying {

@@ -1,11 +1,14 @@
 // What a chosen pack does with slots, and what a reset and a measurement do.
 ghost use mathlib.Core.Bool.{true, false};
+ghost use mathlib.Core.List.{[]};
 ghost use mathlib.Core.Path.{_≡_};
 ghost use Prim.Native.Nat.{_<_, _≤_};
 ghost use Rattle.ds2760.specs.Commands.{pushed, commandOf, asked, nextOf, readByte, opcodeTaken, addressTaken, readOn, dataTaken, slotted, drives, afterReset, made};
 ghost use Rattle.ds2760.specs.Meaning.{stateOf};
+ghost use Rattle.ds2760.specs.Runs.{Lawful, Follows, slot, reset};
 ghost use Rattle.ds2760.specs.Soundness.{waits};
 use crate::blocks::status_in;
+use crate::laws::laws;
 use crate::progress::Block;
 use crate::progress::Command;
 use crate::progress::Copying;
@@ -47,11 +50,26 @@ fn next(address: u16) -> u16
 impl Store {
     // A new store with these EEPROM bytes, in address order. Both blocks are recalled.
     pub fn new(eeprom: [u8; 32]) -> Store
-        ensures { λ r. ⌜ stateOf r ≡ made eeprom ⌝ }
+        ensures made { λ r. ⌜ stateOf r ≡ made eeprom ⌝ }
+        ensures lawful { λ r. ⌜ Lawful eeprom [] (stateOf r) ⌝ }
+    {
+        Store::from_eeprom(&eeprom)
+    }
+
+    fn from_eeprom(eeprom: &[u8; 32]) -> Store
+        ensures made { λ r. ⌜ stateOf r ≡ made (now (eeprom .entry)) ⌝ }
+        ensures lawful { λ r. ⌜ Lawful (now (eeprom .entry)) [] (stateOf r) ⌝ }
+    {
+        laws();
+        Store::recalled(eeprom)
+    }
+
+    fn recalled(eeprom: &[u8; 32]) -> Store
+        ensures { λ r. ⌜ stateOf r ≡ made (now (eeprom .entry)) ⌝ }
     {
         Store {
             protection: 0,
-            status: status_in(&eeprom),
+            status: status_in(eeprom),
             lock: false,
             locked_0: false,
             locked_1: false,
@@ -60,8 +78,8 @@ impl Store {
             current: [0; 2],
             temperature: [0; 2],
             accumulator: Accumulator::new(),
-            shadow: eeprom,
-            eeprom,
+            shadow: *eeprom,
+            eeprom: *eeprom,
             sram: [0; 16],
             progress: Progress::Opcode { count: 0, bits: 0 },
         }
@@ -90,8 +108,10 @@ impl Store {
 
     // Gives a chosen pack a slot with this level.
     pub fn slot(&mut self, level: bool)
-        ensures { λ _. ⌜ stateOf (now (self .exit)) ≡ slotted level (stateOf (now (self .entry))) ⌝ }
+        ensures after { λ _. ⌜ stateOf (now (self .exit)) ≡ slotted level (stateOf (now (self .entry))) ⌝ }
+        ensures lawful { λ _. ⌜ Follows (slot level) (stateOf (now (self .entry))) (stateOf (now (self .exit))) ⌝ }
     {
+        laws();
         self.start_copy();
         match self.progress {
             Progress::Opcode { count, bits } => self.take_opcode(count, push(level, bits)),
@@ -116,8 +136,10 @@ impl Store {
 
     // Gives a reset: the progress through a command ends, and a copy that waits begins.
     pub fn reset(&mut self)
-        ensures { λ _. ⌜ stateOf (now (self .exit)) ≡ afterReset (stateOf (now (self .entry))) ⌝ }
+        ensures after { λ _. ⌜ stateOf (now (self .exit)) ≡ afterReset (stateOf (now (self .entry))) ⌝ }
+        ensures lawful { λ _. ⌜ Follows reset (stateOf (now (self .entry))) (stateOf (now (self .exit))) ⌝ }
     {
+        laws();
         self.start_copy();
         self.progress = Progress::Opcode { count: 0, bits: 0 };
     }

@@ -1,9 +1,12 @@
 // What a measurement does to a store.
+ghost use mathlib.Core.Bool.{true, false};
 ghost use mathlib.Core.Path.{_≡_};
 ghost use Rattle.std.specs.Results.{Cases};
-ghost use Rattle.gauge.specs.Measures.{InRange};
+ghost use Rattle.gauge.specs.Measures.{inRange};
 ghost use Rattle.ds2760.specs.Commands.{measured, biasOf};
 ghost use Rattle.ds2760.specs.Meaning.{stateOf};
+ghost use Rattle.ds2760.specs.Runs.{Follows, measure};
+use crate::laws::laws;
 use crate::store::Store;
 use gauge::Bias;
 use gauge::Counts;
@@ -13,8 +16,10 @@ use gauge::Refusal;
 impl Store {
     // Takes a measurement, or refuses it and leaves all as it was.
     pub fn measure(&mut self, measurement: Measurement) -> Result<(), Refusal>
-        ensures { λ r. ⌜ Cases r (λ _. InRange measurement × (stateOf (now (self .exit)) ≡ measured measurement (stateOf (now (self .entry))))) (λ _. (InRange measurement → ⊥) × (stateOf (now (self .exit)) ≡ stateOf (now (self .entry)))) ⌝ }
+        ensures cases { λ r. ⌜ Cases r (λ _. (inRange measurement ≡ true) × (stateOf (now (self .exit)) ≡ measured measurement (stateOf (now (self .entry))))) (λ _. (inRange measurement ≡ false) × (stateOf (now (self .exit)) ≡ stateOf (now (self .entry)))) ⌝ }
+        ensures lawful { λ _. ⌜ Follows (measure measurement) (stateOf (now (self .entry))) (stateOf (now (self .exit))) ⌝ }
     {
+        laws();
         let counts = measurement.counts(self.bias())?;
         self.voltage = counts.voltage_register();
         self.current = counts.current_register();

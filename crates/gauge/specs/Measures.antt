@@ -1,21 +1,19 @@
 -- From a measurement to its counts. Assumes nothing.
-use mathlib.Core.Path.{_≡_}
+use mathlib.Core.Bool.{Bool, _&&_}
 use Prim.Native.Nat.{ℕ, _<_}
 use lib.IntN.{ℤ, pos, negsuc, _+ℤ_, _-ℤ_, _*ℤ_}
-use lib.Signed.{_≤ℤ_, _<ℤ_}
+use lib.Signed.{leZ, _≤ℤ_, _<ℤ_}
 use Rattle.std.specs.Numbers.{divEuclid, maxZ, minZ}
 use Rattle.gauge.specs.declared.measure.Measurement.{Measurement}
 use Rattle.gauge.specs.declared.measure.Refusal.{Refusal}
 use Rattle.gauge.specs.declared.measure.Refusal.the-variants.{OutOfRange}
 
 -- every number is within its range
-pub record InRange (m : Measurement) : Type 0 where
-  pub voltage-low : pos 0 ≤ℤ m .«cell_voltage»
-  pub voltage-high : m .«cell_voltage» ≤ℤ pos 20000000
-  pub sense-low : negsuc 999999999 ≤ℤ m .«sense_voltage»
-  pub sense-high : m .«sense_voltage» ≤ℤ pos 1000000000
-  pub temperature-low : negsuc 273149 ≤ℤ m .temperature
-  pub temperature-high : m .temperature ≤ℤ pos 1000000
+abbrev pub inRange : Measurement → Bool
+inRange m =
+    (leZ (pos 0) (m .«cell_voltage») && leZ (m .«cell_voltage») (pos 20000000))
+    && ((leZ (negsuc 999999999) (m .«sense_voltage») && leZ (m .«sense_voltage») (pos 1000000000))
+    && (leZ (negsuc 273149) (m .temperature) && leZ (m .temperature) (pos 1000000)))
 
 -- the number of the refusal
 abbrev pub numberOf : Refusal → ℕ

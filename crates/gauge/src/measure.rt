@@ -1,10 +1,10 @@
 // A measurement and its counts.
+ghost use mathlib.Core.Bool.{true, false};
 ghost use mathlib.Core.Path.{_≡_};
 ghost use lib.IntN.{pos, negsuc, _-ℤ_};
 ghost use lib.Signed.{_≤ℤ_};
-ghost use Rattle.std.specs.Orderings.{Decides};
 ghost use Rattle.std.specs.Results.{Cases};
-ghost use Rattle.gauge.specs.Measures.{InRange, numberOf, floor, limited, voltageCount, currentCount, temperatureCount, RoundsDown};
+ghost use Rattle.gauge.specs.Measures.{inRange, numberOf, floor, limited, voltageCount, currentCount, temperatureCount, RoundsDown};
 ghost use Rattle.gauge.specs.Held.{Counted};
 use crate::counts::Counts;
 
@@ -43,7 +43,7 @@ impl Refusal {
 impl Measurement {
     // Its counts, where each number is in range. The bias is subtracted from the current.
     pub fn counts(self, bias: Bias) -> Result<Counts, Refusal>
-        ensures cases { λ r. ⌜ Cases r (λ c. InRange self × Counted self (bias .0) c) (λ _. InRange self → ⊥) ⌝ }
+        ensures cases { λ r. ⌜ Cases r (λ c. (inRange self ≡ true) × Counted self (bias .0) c) (λ _. inRange self ≡ false) ⌝ }
         ensures law { λ _. ⌜ RoundsDown ⌝ }
     {
         let counts = self.counted(bias);
@@ -67,7 +67,7 @@ impl Measurement {
     }
 
     fn in_range(&self) -> bool
-        ensures { λ r. ⌜ Decides r (InRange (now (self .entry))) ⌝ }
+        ensures { λ r. ⌜ r ≡ inRange (now (self .entry)) ⌝ }
     {
         0 <= self.cell_voltage
             && self.cell_voltage <= 20_000_000

@@ -1,0 +1,9 @@
+use Rattle.ds2760.specs.Meaning.{stateOf}
+use Rattle.ds2760.proofs.store.Store.from_eeprom.Needs as need
+
+pub returns : need.returns
+returns c =
+    record {
+      made = c .recalled .ensures;
+      lawful = c .laws .ensures .makes (c .args .eeprom .now) (stateOf (c .recalled .result)) (c .told-eeprom) (c .recalled .ensures);
+    }
