@@ -1,2 +1,3 @@
 pub mod Quiet
 pub mod Runs
+pub mod Effects

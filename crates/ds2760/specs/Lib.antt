@@ -4,3 +4,4 @@ pub mod Meaning
 pub mod Map
 pub mod Commands
 pub mod Runs
+pub mod Effects

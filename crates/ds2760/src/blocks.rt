@@ -7,6 +7,7 @@ ghost use Rattle.ds2760.specs.Runs.{Follows, tick};
 ghost use Rattle.ds2760.specs.Soundness.{waits};
 ghost use Rattle.ds2760.specs.States.{withCopying};
 ghost use Rattle.ds2760.specs.Commands.{replaced, recalled, copied, locked, isLocked, blockOf, copyAsked, recallAsked, lockAsked, started, ticked, recalledStatus};
+ghost use Rattle.ds2760.specs.Effects.{CopiesComplete};
 ghost use Rattle.ds2760.specs.Meaning.{stateOf};
 use crate::laws::laws;
 use crate::progress::Block;
@@ -127,6 +128,7 @@ impl Store {
     pub fn tick(&mut self)
         ensures after { λ _. ⌜ stateOf (now (self .exit)) ≡ ticked (stateOf (now (self .entry))) ⌝ }
         ensures lawful { λ _. ⌜ Follows tick (stateOf (now (self .entry))) (stateOf (now (self .exit))) ⌝ }
+        ensures copies { λ _. ⌜ CopiesComplete ⌝ }
     {
         laws();
         self.count_down();

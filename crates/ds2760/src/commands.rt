@@ -4,6 +4,7 @@ ghost use mathlib.Core.List.{[]};
 ghost use mathlib.Core.Path.{_≡_};
 ghost use Prim.Native.Nat.{_<_, _≤_};
 ghost use Rattle.ds2760.specs.Commands.{pushed, commandOf, asked, nextOf, readByte, opcodeTaken, addressTaken, readOn, dataTaken, slotted, drives, afterReset, made};
+ghost use Rattle.ds2760.specs.Effects.{WritesReadBack, RecallsRestore};
 ghost use Rattle.ds2760.specs.Meaning.{stateOf};
 ghost use Rattle.ds2760.specs.Runs.{Lawful, Follows, slot, reset};
 ghost use Rattle.ds2760.specs.Soundness.{waits};
@@ -110,6 +111,8 @@ impl Store {
     pub fn slot(&mut self, level: bool)
         ensures after { λ _. ⌜ stateOf (now (self .exit)) ≡ slotted level (stateOf (now (self .entry))) ⌝ }
         ensures lawful { λ _. ⌜ Follows (slot level) (stateOf (now (self .entry))) (stateOf (now (self .exit))) ⌝ }
+        ensures writes { λ _. ⌜ WritesReadBack ⌝ }
+        ensures recalls { λ _. ⌜ RecallsRestore ⌝ }
     {
         laws();
         self.start_copy();

@@ -1,7 +1,7 @@
 // How far a store has come with a command, and with a copy.
 
 // Sixteen bytes of EEPROM, with their shadow.
-#[derive(Clone, Copy, PartialEq, Eq, Debug)]
+#[derive(Clone, Copy)]
 pub enum Block {
     // 20h to 2Fh
     Zero,
@@ -10,7 +10,7 @@ pub enum Block {
 }
 
 // What an opcode asks for.
-#[derive(Clone, Copy, PartialEq, Eq, Debug)]
+#[derive(Clone, Copy)]
 pub enum Command {
     Read,
     Write,
@@ -21,7 +21,7 @@ pub enum Command {
 
 // What a chosen pack does with the next slot. `count` is how many bits have come of the byte under
 // way, and `bits` has these at its top.
-#[derive(Clone, Copy, Debug)]
+#[derive(Clone, Copy)]
 pub enum Progress {
     // takes an opcode
     Opcode {
@@ -51,7 +51,7 @@ pub enum Progress {
 }
 
 // A copy of a block's shadow to its EEPROM.
-#[derive(Clone, Copy, Debug)]
+#[derive(Clone, Copy)]
 pub enum Copying {
     No,
     // it starts at the next slot or reset

@@ -62,8 +62,7 @@ impl Accumulator {
         ensures { λ _. ⌜ chargeOf (now (self .exit)) ≡ whole (decoded byte (getD (register (chargeOf (now (self .entry)) .amount)) 1 0)) ⌝ }
     {
         let [_, low] = self.register();
-        self.amount = i16::from_be_bytes([byte, low]);
-        self.residue = 0;
+        (self.amount, self.residue) = (i16::from_be_bytes([byte, low]), 0);
     }
 
     // Sets the lower byte of the amount, and clears the residue.
@@ -71,8 +70,7 @@ impl Accumulator {
         ensures { λ _. ⌜ chargeOf (now (self .exit)) ≡ whole (decoded (getD (register (chargeOf (now (self .entry)) .amount)) 0 0) byte) ⌝ }
     {
         let [high, _] = self.register();
-        self.amount = i16::from_be_bytes([high, byte]);
-        self.residue = 0;
+        (self.amount, self.residue) = (i16::from_be_bytes([high, byte]), 0);
     }
 }
 

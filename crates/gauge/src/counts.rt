@@ -2,7 +2,7 @@
 ghost use lib.IntN.{pos, negsuc};
 ghost use lib.Signed.{_≤ℤ_};
 
-#[derive(Clone, Copy, Debug)]
+#[derive(Clone, Copy)]
 pub struct Counts {
     pub(crate) voltage: i16,
     pub(crate) current: i16,

@@ -20,7 +20,7 @@ pub struct Measurement {
 }
 
 // What is subtracted from each current count.
-#[derive(Clone, Copy, PartialEq, Eq, Debug)]
+#[derive(Clone, Copy)]
 pub struct Bias(pub i8);
 
 // Why a measurement is not taken.

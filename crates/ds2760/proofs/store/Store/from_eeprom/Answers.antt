@@ -5,5 +5,5 @@ pub returns : need.returns
 returns c =
     record {
       made = c .recalled .ensures;
-      lawful = c .laws .ensures .makes (c .args .eeprom .now) (stateOf (c .recalled .result)) (c .told-eeprom) (c .recalled .ensures);
+      lawful = c .laws .ensures .runs .makes (c .args .eeprom .now) (stateOf (c .recalled .result)) (c .told-eeprom) (c .recalled .ensures);
     }
