@@ -1,7 +1,7 @@
 -- What writes, recalls and copies come to. Assumes nothing.
 use mathlib.Core.Path.{_≡_, refl, ap, sym, subst, _∙_}
 use mathlib.Core.Bool.{Bool, true, false, cond, _&&_}
-use mathlib.Core.List.{List, [], _∷_, _++_}
+use mathlib.Core.List.{List, [], _∷_}
 use Prim.Native.Nat.{ℕ, zero, suc, _+_, _-_, _*_, _/_, _%_, _<_, _≤_}
 use native.Mathlib.Omega.{arith}
 use lib.Dec.{eqb, leb, ltb}
@@ -9,18 +9,17 @@ use lib.IntN.{ℤ, pos, negsuc}
 use lib.ListN.{length, getD, set, take, drop}
 use lib.Signed.{_≤ℤ_}
 use Rattle.std.specs.declared.option.Option.{Option}
-use Rattle.std.specs.declared.option.Option.the-variants.{None, Some}
 use Rattle.std.specs.shelf.Lists.{All}
 use Rattle.std.proofs.shelf.Signed.{ints}
 use Rattle.std.proofs.shelf.Lists.{getD-set-same, take-at, drop-at, length-take-le}
-use Rattle.std.proofs.shelf.Tests.{and-parts, leb-true, cond-both, cond-true, cond-false, ne-eqb, lt-ltb, eqb-true, eqb-false, ltb-true, ltb-false}
+use Rattle.std.proofs.shelf.Tests.{and-parts, leb-true, cond-true, cond-false, ne-eqb, eqb-true, eqb-false}
 use Rattle.gauge.specs.Registers.{complement, register, decoded}
 use Rattle.ds2760.specs.declared.progress.Block.{Block}
 use Rattle.ds2760.specs.declared.progress.Block.the-variants.{Zero, One}
 use Rattle.ds2760.specs.declared.progress.Command.the-variants.{Copy, Recall}
 use Rattle.ds2760.specs.declared.progress.Copying.the-variants.{No, Waiting, Running}
-use Rattle.ds2760.specs.declared.progress.Progress.the-variants.{Opcode, Finished}
-use Rattle.ds2760.specs.Commands.{blockOf, replaced, isLocked, copyAsked, recallAsked, recalled, copied, asked, ticked, tickedBy}
+use Rattle.ds2760.specs.declared.progress.Progress.the-variants.{Finished}
+use Rattle.ds2760.specs.Commands.{replaced, isLocked, copyAsked, recallAsked, recalled, copied, asked, ticked}
 use Rattle.ds2760.specs.Effects.{Whole, backAt, WritesReadBack, RecallsRestore, Starts, ticks, Completes, CopiesComplete}
 use Rattle.ds2760.specs.Map.{Place, amount, reserved, Row, rows, placeIn, placeOf, eec, held, heldAt, written, writtenAt, writable}
 use Rattle.ds2760.specs.Runs.{Call, slot, reset, tick, measure, does, half}

@@ -2,7 +2,7 @@
 use mathlib.Core.Path.{_≡_, refl, ap, sym, subst, _∙_}
 use mathlib.Core.Bool.{Bool, true, false, not, cond, _&&_}
 use mathlib.Core.List.{List, [], _∷_, _++_}
-use Prim.Native.Nat.{ℕ, _+_, _-_, _<_, _≤_}
+use Prim.Native.Nat.{ℕ, _-_, _≤_}
 use native.Mathlib.Omega.{arith}
 use lib.Dec.{eqb, leb}
 use lib.ListN.{length, take, drop}
@@ -14,9 +14,9 @@ use Rattle.ds2760.specs.declared.progress.Block.{Block}
 use Rattle.ds2760.specs.declared.progress.Block.the-variants.{Zero, One}
 use Rattle.ds2760.specs.declared.progress.Copying.{Copying}
 use Rattle.ds2760.specs.declared.progress.Copying.the-variants.{No, Waiting, Running}
-use Rattle.ds2760.specs.Commands.{replaced, isLocked, copied, tickedBy, ticked, measured, made}
-use Rattle.ds2760.specs.Runs.{Call, slot, reset, tick, measure, does, run, slotless, half, Kept, Lawful, Follows, RunsAreLawful}
-use Rattle.ds2760.specs.Soundness.{flagOf, copies}
+use Rattle.ds2760.specs.Commands.{replaced, isLocked, copied, tickedBy, measured, made}
+use Rattle.ds2760.specs.Runs.{Call, slot, reset, tick, measure, does, run, slotless, half, Kept, Lawful, RunsAreLawful}
+use Rattle.ds2760.specs.Soundness.{copies}
 use Rattle.ds2760.specs.States.{State, withCopying}
 use Rattle.ds2760.proofs.Quiet.{Sound, Quiet, other, replaced-long, quiet-self, quiet-slot, quiet-reset}
 

@@ -10,7 +10,7 @@ use lib.Signed.{_≤ℤ_}
 use Rattle.std.specs.declared.option.Option.the-variants.{Some}
 use Rattle.ds2760.specs.declared.progress.Block.{Block}
 use Rattle.ds2760.specs.declared.progress.Command.the-variants.{Copy, Recall}
-use Rattle.ds2760.specs.Commands.{blockOf, replaced, isLocked, asked, ticked}
+use Rattle.ds2760.specs.Commands.{blockOf, isLocked, asked, ticked}
 use Rattle.ds2760.specs.Map.{Place, protection, status, eeprom, feature, voltage, current, amount, temperature, block0, block1, sram, reserved, placeOf, eec, flags, held, heldAt, written, writable}
 use Rattle.ds2760.specs.Runs.{Call, slot, reset, tick, measure, does, half}
 use Rattle.ds2760.specs.States.{State, withLock}

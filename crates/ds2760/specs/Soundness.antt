@@ -1,6 +1,5 @@
 -- What holds of a store's parts at any time. Assumes nothing.
-use mathlib.Core.Bool.{Bool, true, false, not, cond, _&&_}
-use Prim.Native.Nat.{ℕ}
+use mathlib.Core.Bool.{Bool, true, false, not, _&&_}
 use lib.Dec.{ltb, leb}
 use Rattle.ds2760.specs.declared.progress.Block.{Block}
 use Rattle.ds2760.specs.declared.progress.Block.the-variants.{Zero, One}

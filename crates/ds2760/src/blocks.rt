@@ -7,9 +7,8 @@ ghost use Rattle.ds2760.specs.Runs.{Follows, tick};
 ghost use Rattle.ds2760.specs.Soundness.{waits};
 ghost use Rattle.ds2760.specs.States.{withCopying};
 ghost use Rattle.ds2760.specs.Commands.{replaced, recalled, copied, locked, isLocked, blockOf, copyAsked, recallAsked, lockAsked, started, ticked, recalledStatus};
-ghost use Rattle.ds2760.specs.Effects.{CopiesComplete};
+ghost use Rattle.ds2760.specs.Effects.{Whole, CopiesComplete};
 ghost use Rattle.ds2760.specs.Meaning.{stateOf};
-use crate::laws::laws;
 use crate::progress::Block;
 use crate::progress::Copying;
 use crate::store::Store;
@@ -129,8 +128,9 @@ impl Store {
         ensures after { λ _. ⌜ stateOf (now (self .exit)) ≡ ticked (stateOf (now (self .entry))) ⌝ }
         ensures lawful { λ _. ⌜ Follows tick (stateOf (now (self .entry))) (stateOf (now (self .exit))) ⌝ }
         ensures copies { λ _. ⌜ CopiesComplete ⌝ }
+        ensures whole { λ _. ⌜ Whole (stateOf (now (self .entry))) ⌝ }
     {
-        laws();
+        self.laws();
         self.count_down();
     }
 

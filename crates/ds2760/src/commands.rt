@@ -4,12 +4,11 @@ ghost use mathlib.Core.List.{[]};
 ghost use mathlib.Core.Path.{_≡_};
 ghost use Prim.Native.Nat.{_<_, _≤_};
 ghost use Rattle.ds2760.specs.Commands.{pushed, commandOf, asked, nextOf, readByte, opcodeTaken, addressTaken, readOn, dataTaken, slotted, drives, afterReset, made};
-ghost use Rattle.ds2760.specs.Effects.{WritesReadBack, RecallsRestore};
+ghost use Rattle.ds2760.specs.Effects.{Whole, WritesReadBack, RecallsRestore};
 ghost use Rattle.ds2760.specs.Meaning.{stateOf};
 ghost use Rattle.ds2760.specs.Runs.{Lawful, Follows, slot, reset};
 ghost use Rattle.ds2760.specs.Soundness.{waits};
 use crate::blocks::status_in;
-use crate::laws::laws;
 use crate::progress::Block;
 use crate::progress::Command;
 use crate::progress::Copying;
@@ -61,8 +60,9 @@ impl Store {
         ensures made { λ r. ⌜ stateOf r ≡ made (now (eeprom .entry)) ⌝ }
         ensures lawful { λ r. ⌜ Lawful (now (eeprom .entry)) [] (stateOf r) ⌝ }
     {
-        laws();
-        Store::recalled(eeprom)
+        let store = Store::recalled(eeprom);
+        store.laws();
+        store
     }
 
     fn recalled(eeprom: &[u8; 32]) -> Store
@@ -113,8 +113,9 @@ impl Store {
         ensures lawful { λ _. ⌜ Follows (slot level) (stateOf (now (self .entry))) (stateOf (now (self .exit))) ⌝ }
         ensures writes { λ _. ⌜ WritesReadBack ⌝ }
         ensures recalls { λ _. ⌜ RecallsRestore ⌝ }
+        ensures whole { λ _. ⌜ Whole (stateOf (now (self .entry))) ⌝ }
     {
-        laws();
+        self.laws();
         self.start_copy();
         match self.progress {
             Progress::Opcode { count, bits } => self.take_opcode(count, push(level, bits)),
@@ -142,7 +143,7 @@ impl Store {
         ensures after { λ _. ⌜ stateOf (now (self .exit)) ≡ afterReset (stateOf (now (self .entry))) ⌝ }
         ensures lawful { λ _. ⌜ Follows reset (stateOf (now (self .entry))) (stateOf (now (self .exit))) ⌝ }
     {
-        laws();
+        self.laws();
         self.start_copy();
         self.progress = Progress::Opcode { count: 0, bits: 0 };
     }

@@ -6,7 +6,6 @@ ghost use Rattle.gauge.specs.Measures.{inRange};
 ghost use Rattle.ds2760.specs.Commands.{measured, biasOf};
 ghost use Rattle.ds2760.specs.Meaning.{stateOf};
 ghost use Rattle.ds2760.specs.Runs.{Follows, measure};
-use crate::laws::laws;
 use crate::store::Store;
 use gauge::Bias;
 use gauge::Counts;
@@ -19,7 +18,7 @@ impl Store {
         ensures cases { λ r. ⌜ Cases r (λ _. (inRange measurement ≡ true) × (stateOf (now (self .exit)) ≡ measured measurement (stateOf (now (self .entry))))) (λ _. (inRange measurement ≡ false) × (stateOf (now (self .exit)) ≡ stateOf (now (self .entry)))) ⌝ }
         ensures lawful { λ _. ⌜ Follows (measure measurement) (stateOf (now (self .entry))) (stateOf (now (self .exit))) ⌝ }
     {
-        laws();
+        self.laws();
         let counts = measurement.counts(self.bias())?;
         self.voltage = counts.voltage_register();
         self.current = counts.current_register();

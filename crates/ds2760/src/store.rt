@@ -1,7 +1,6 @@
 // All that a DS2760 holds besides its address and its stage on the line.
 ghost use mathlib.Core.Path.{_≡_};
 ghost use mathlib.Core.Bool.{true};
-ghost use Prim.Native.Nat.{_<_};
 ghost use Rattle.ds2760.specs.Soundness.{underway, copies};
 use crate::progress::Copying;
 use crate::progress::Progress;

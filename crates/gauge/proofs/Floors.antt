@@ -1,12 +1,12 @@
 -- The quotient that `div_euclid` answers is rounded towards the lower number. Assumes nothing.
-use mathlib.Core.Path.{_≡_, refl, sym, subst}
-use Prim.Native.Nat.{ℕ, zero, suc, _+_, _*_, _/_, _%_, _<_, _≤_}
-use native.Mathlib.Nat.{div-add-mod', mod-lt, add-mul, mul-comm, suc-mul}
+use mathlib.Core.Path.{_≡_, sym, subst}
+use Prim.Native.Nat.{ℕ, zero, suc, _*_, _/_, _≤_}
+use native.Mathlib.Nat.{div-add-mod', mod-lt, add-mul, suc-mul}
 use native.Mathlib.Omega.{arith}
 use lib.IntN.{ℤ, pos, negsuc, _+ℤ_, _*ℤ_}
-use lib.Signed.{_≤ℤ_, _<ℤ_}
+use lib.Signed.{_<ℤ_}
 use Rattle.std.proofs.shelf.Signed.{ints}
-use Rattle.gauge.specs.Measures.{floor, Floor, RoundsDown}
+use Rattle.gauge.specs.Measures.{RoundsDown}
 
 -- one unit more than -(q + 1) of them is above -(a + 1), where q of them are at most a
 above : (q u a : ℕ) → q * u ≤ a → negsuc a <ℤ ((negsuc q +ℤ pos 1) *ℤ pos u)

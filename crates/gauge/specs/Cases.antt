@@ -1,6 +1,6 @@
 -- Worked cases, each with what it comes to. Assumes nothing.
 use mathlib.Core.Path.{_≡_}
-use mathlib.Core.List.{List, [], _∷_, _++_, map}
+use mathlib.Core.List.{List, [], _∷_, map}
 use lib.IntN.{ℤ, pos, negsuc, _*ℤ_}
 use Rattle.std.specs.shelf.Lists.{All}
 use Rattle.gauge.specs.Charges.{Charge, whole, added}

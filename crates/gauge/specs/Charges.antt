@@ -1,6 +1,5 @@
 -- What the current accumulator holds, and what a count adds to it. Assumes nothing.
 use mathlib.Core.Bool.{cond}
-use Prim.Native.Nat.{ℕ}
 use lib.IntN.{ℤ, pos, negsuc, _+ℤ_, _-ℤ_, _*ℤ_}
 use lib.Signed.{ltZ}
 use Rattle.gauge.specs.declared.accumulator.Accumulator.{Accumulator}

@@ -2,6 +2,7 @@
 mod accumulate;
 mod accumulator;
 mod cases;
+mod charge;
 mod counts;
 mod measure;
 mod registers;

@@ -1,7 +1,7 @@
 // A measurement and its counts.
 ghost use mathlib.Core.Bool.{true, false};
 ghost use mathlib.Core.Path.{_≡_};
-ghost use lib.IntN.{pos, negsuc, _-ℤ_};
+ghost use lib.IntN.{pos, negsuc};
 ghost use lib.Signed.{_≤ℤ_};
 ghost use Rattle.std.specs.Results.{Cases};
 ghost use Rattle.gauge.specs.Measures.{inRange, numberOf, floor, limited, voltageCount, currentCount, temperatureCount, RoundsDown};
@@ -84,7 +84,15 @@ const CURRENT_UNIT: i64 = 15_625;
 
 const TEMPERATURE_UNIT: i64 = 125;
 
-// How many whole units the value has, rounded towards the lower number, within the limits.
+// How many whole units the value has, rounded towards the lower number.
+fn whole_units(value: i64, unit: i64) -> i64
+    requires { ⌜ pos 1 ≤ℤ unit ⌝ }
+    ensures { λ r. ⌜ r ≡ floor value unit ⌝ }
+{
+    value.div_euclid(unit)
+}
+
+// The same, within the limits.
 fn count(value: i64, unit: i64, low: i16, high: i16) -> i16
     requires unit { ⌜ pos 1 ≤ℤ unit ⌝ }
     requires limits { ⌜ low ≤ℤ high ⌝ }
@@ -92,7 +100,7 @@ fn count(value: i64, unit: i64, low: i16, high: i16) -> i16
     ensures low { λ r. ⌜ low ≤ℤ r ⌝ }
     ensures high { λ r. ⌜ r ≤ℤ high ⌝ }
 {
-    value.div_euclid(unit).clamp(low as i64, high as i64) as i16
+    whole_units(value, unit).clamp(low as i64, high as i64) as i16
 }
 
 fn voltage_count(cell_voltage: i64) -> i16
@@ -118,5 +126,13 @@ fn current_count(sense_voltage: i64, bias: i8) -> i16
     ensures high { λ r. ⌜ r ≤ℤ pos 4095 ⌝ }
 {
     let unbiased = count(sense_voltage, CURRENT_UNIT, -4096, 4095);
-    (unbiased - bias as i16).clamp(-4096, 4095)
+    limit_current(unbiased - bias as i16)
+}
+
+fn limit_current(count: i16) -> i16
+    ensures value { λ r. ⌜ r ≡ limited (negsuc 4095) (pos 4095) count ⌝ }
+    ensures low { λ r. ⌜ negsuc 4095 ≤ℤ r ⌝ }
+    ensures high { λ r. ⌜ r ≤ℤ pos 4095 ⌝ }
+{
+    count.clamp(-4096, 4095)
 }

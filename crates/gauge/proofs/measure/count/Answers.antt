@@ -5,7 +5,7 @@ use mir.Syntax.{w16, w64}
 use mir.Val.{toZ, ofZ}
 use native.Mathlib.Omega.{arith}
 use Rattle.std.specs.Numbers.{divEuclid, maxZ, minZ}
-use Rattle.std.proofs.shelf.Signed.{ints, toZ-ofZ}
+use Rattle.std.proofs.shelf.Signed.{ints}
 use Rattle.gauge.proofs.measure.count.Needs as need
 
 -- the casts lose nothing
@@ -22,8 +22,8 @@ returns c =
     let r-is : toZ w16 (ofZ w16 (toZ w64 (ofZ w64 r))) ≡ r = omega (arith, ints, least, most) in
     let value-is : toZ w64 (ofZ w64 (c .args .value)) ≡ c .args .value = omega (arith, ints) in
     let unit-is : toZ w64 (ofZ w64 (c .args .unit)) ≡ c .args .unit = omega (arith, ints) in
-    let q-is : toZ w64 (ofZ w64 (c .div-euclid .result)) ≡ c .div-euclid .result = omega (arith, ints) in
-    let quotient = q-is ∙ c .div-euclid .ensures ∙ (λ i. divEuclid (value-is i) (unit-is i)) in
+    let q-is : toZ w64 (ofZ w64 (c .whole-units .result)) ≡ c .whole-units .result = omega (arith, ints) in
+    let quotient = q-is ∙ c .whole-units .ensures ∙ (λ i. divEuclid (value-is i) (unit-is i)) in
     record {
       value = r-is ∙ k .value ∙ (λ i. maxZ (low-is i) (minZ (quotient i) (high-is i)));
       low = subst (λ (z : ℤ). low ≤ℤ z) (sym r-is) least;

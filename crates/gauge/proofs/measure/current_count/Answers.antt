@@ -1,6 +1,6 @@
 use borrow.Author.Needs.{needs}
 use native.Mathlib.Omega.{arith}
-use Rattle.std.proofs.shelf.Signed.{ints, toZ-ofZ}
+use Rattle.std.proofs.shelf.Signed.{toZ-ofZ}
 use Rattle.gauge.specs.Measures.{currentCount}
 use Rattle.gauge.proofs.measure.current_count.Needs as need
 

@@ -4,6 +4,6 @@ use Rattle.ds2760.proofs.store.Store.from_eeprom.Needs as need
 pub returns : need.returns
 returns c =
     record {
-      made = c .recalled .ensures;
-      lawful = c .laws .ensures .runs .makes (c .args .eeprom .now) (stateOf (c .recalled .result)) (c .told-eeprom) (c .recalled .ensures);
+      made = c .recalled-store .ensures;
+      lawful = c .laws .ensures .runs .makes (c .args .eeprom .now) (stateOf (c .recalled-store .result)) (c .told-eeprom) (c .recalled-store .ensures);
     }

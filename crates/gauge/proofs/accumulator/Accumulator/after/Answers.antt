@@ -6,7 +6,7 @@ use mir.Val.{SFits, toZ, ofZ}
 use native.Mathlib.Omega.{arith}
 use borrow.Author.Needs.{needs}
 use Rattle.std.proofs.shelf.Signed.{ints, toZ-ofZ}
-use Rattle.gauge.specs.Charges.{chargeOf, settled, added, total, held}
+use Rattle.gauge.specs.Charges.{chargeOf, settled, total, held}
 use Rattle.gauge.proofs.Totals.{settled-held}
 use Rattle.gauge.proofs.accumulator.Accumulator.after.Needs as need
 
