@@ -6,7 +6,7 @@ use lib.IntN.{ℤ, pos, negsuc, _+ℤ_, _*ℤ_}
 use lib.Signed.{ltZ, _≤ℤ_, _<ℤ_, ltZ-yes, ltZ-no}
 use native.Mathlib.Omega.{arith}
 use Rattle.std.proofs.shelf.Signed.{ints, clamps}
-use Rattle.gauge.specs.Charges.{Charge, settled, fallen, risen, total, held}
+use Rattle.gauge.specs.Charges.{Charge, settled, fallen, risen, total, capped}
 
 -- a test on signed numbers, either way
 tested : (x y : ℤ) (a b : Charge) (P : Charge → Type 0) → (x <ℤ y → P a) → (y ≤ℤ x → P b) → (t : Bool) → ltZ x y ≡ t → P (cond t a b)
@@ -15,7 +15,7 @@ tested x y a b P p q false e = q (ltZ-no (subst (λ (t : Bool). T (not t)) (sym 
 
 module _ (a r : ℤ) (a-low : negsuc 32767 ≤ℤ a) (a-high : a ≤ℤ pos 32767) where
   Held : Charge → Type 0
-  Held q = total q ≡ held (pos 180000 *ℤ a +ℤ r)
+  Held q = total q ≡ capped (pos 180000 *ℤ a +ℤ r)
 
   fallen-held : negsuc 179999 ≤ℤ r → r <ℤ pos 0 → Held (fallen a r)
   unfolding Held
@@ -27,7 +27,7 @@ module _ (a r : ℤ) (a-low : negsuc 32767 ≤ℤ a) (a-high : a ≤ℤ pos 3276
   risen-held p q =
       tested a (pos 32767) _ _ Held (λ h. omega (arith, ints, clamps)) (λ h. omega (arith, ints, clamps)) (ltZ a (pos 32767)) refl
 
-  pub settled-held : negsuc 179999 ≤ℤ r → r <ℤ pos 360000 → total (settled a r) ≡ held (pos 180000 *ℤ a +ℤ r)
+  pub settled-held : negsuc 179999 ≤ℤ r → r <ℤ pos 360000 → total (settled a r) ≡ capped (pos 180000 *ℤ a +ℤ r)
   unfolding Held
   settled-held p q =
       tested r (pos 0) _ _ Held (fallen-held p)

@@ -41,5 +41,5 @@ abbrev pub total : Charge → ℤ
 total q = pos 180000 *ℤ q .amount +ℤ q .residue
 
 -- a total within what the accumulator can hold
-abbrev pub held : ℤ → ℤ
-held t = limited (negsuc 5898239999) (pos 5898239999) t
+abbrev pub capped : ℤ → ℤ
+capped t = limited (negsuc 5898239999) (pos 5898239999) t

@@ -3,7 +3,7 @@ ghost use mathlib.Core.Path.{_≡_};
 ghost use lib.IntN.{pos, negsuc, _+ℤ_, _*ℤ_};
 ghost use lib.ListN.{getD};
 ghost use lib.Signed.{_≤ℤ_, _<ℤ_};
-ghost use Rattle.gauge.specs.Charges.{chargeOf, whole, fallen, risen, settled, added, total, held};
+ghost use Rattle.gauge.specs.Charges.{chargeOf, whole, fallen, risen, settled, added, total, capped};
 ghost use Rattle.gauge.specs.Held.{currentOf};
 ghost use Rattle.gauge.specs.Registers.{register, decoded};
 use crate::accumulator::Accumulator;
@@ -28,14 +28,14 @@ impl Accumulator {
     // Adds the current count.
     pub fn add(&mut self, counts: &Counts)
         ensures step { λ _. ⌜ chargeOf (now (self .exit)) ≡ added (currentOf (now (counts .entry))) (chargeOf (now (self .entry))) ⌝ }
-        ensures total { λ _. ⌜ total (chargeOf (now (self .exit))) ≡ held (total (chargeOf (now (self .entry))) +ℤ pos 11 *ℤ currentOf (now (counts .entry))) ⌝ }
+        ensures total { λ _. ⌜ total (chargeOf (now (self .exit))) ≡ capped (total (chargeOf (now (self .entry))) +ℤ pos 11 *ℤ currentOf (now (counts .entry))) ⌝ }
     {
         *self = self.after(counts);
     }
 
     fn after(&self, counts: &Counts) -> Accumulator
         ensures step { λ r. ⌜ chargeOf r ≡ added (currentOf (now (counts .entry))) (chargeOf (now (self .entry))) ⌝ }
-        ensures total { λ r. ⌜ total (chargeOf r) ≡ held (total (chargeOf (now (self .entry))) +ℤ pos 11 *ℤ currentOf (now (counts .entry))) ⌝ }
+        ensures total { λ r. ⌜ total (chargeOf r) ≡ capped (total (chargeOf (now (self .entry))) +ℤ pos 11 *ℤ currentOf (now (counts .entry))) ⌝ }
     {
         settled(self.amount, self.sum(counts))
     }

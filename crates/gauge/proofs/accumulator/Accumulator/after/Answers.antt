@@ -6,7 +6,7 @@ use mir.Val.{SFits, toZ, ofZ}
 use native.Mathlib.Omega.{arith}
 use borrow.Author.Needs.{needs}
 use Rattle.std.proofs.shelf.Signed.{ints, toZ-ofZ}
-use Rattle.gauge.specs.Charges.{chargeOf, settled, total, held}
+use Rattle.gauge.specs.Charges.{chargeOf, settled, total, capped}
 use Rattle.gauge.proofs.Totals.{settled-held}
 use Rattle.gauge.proofs.accumulator.Accumulator.after.Needs as need
 
@@ -27,6 +27,6 @@ returns c =
       total =
           ap total step
           ∙ settled-held a s low high (c .sum .ensures .low) (c .sum .ensures .high)
-          ∙ ap (λ (z : ℤ). held (pos 180000 *ℤ a +ℤ z)) (c .sum .ensures .value)
-          ∙ ap held (sym (+ℤ-assoc (pos 180000 *ℤ a) r (pos 11 *ℤ n)));
+          ∙ ap (λ (z : ℤ). capped (pos 180000 *ℤ a +ℤ z)) (c .sum .ensures .value)
+          ∙ ap capped (sym (+ℤ-assoc (pos 180000 *ℤ a) r (pos 11 *ℤ n)));
     }
