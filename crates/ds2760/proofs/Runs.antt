@@ -156,7 +156,7 @@ made-sound : (bytes : List ℕ) → length bytes ≡ 32 → Sound (made bytes)
 made-sound bytes l = record { copies = refl; shadow = l; eeprom = l }
 
 -- a state that a run leads to keeps what every earlier point had to keep
-lawful : (bytes : List ℕ) (calls : List Call) (s : State) → length bytes ≡ 32 → s ≡ run calls (made bytes) → Lawful bytes calls s
+pub lawful : (bytes : List ℕ) (calls : List Call) (s : State) → length bytes ≡ 32 → s ≡ run calls (made bytes) → Lawful bytes calls s
 lawful bytes calls s l e =
     record {
       state = e;

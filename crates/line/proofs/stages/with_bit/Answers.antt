@@ -1,0 +1,30 @@
+use mathlib.Core.Path.{_≡_, ap, sym, _∙_}
+use mathlib.Core.Bool.{Bool}
+use Prim.Native.Nat.{ℕ, _+_, _*_, _%_, _^_}
+use native.Mathlib.Nat.{two-pow-succ}
+use native.Mathlib.Numerals.{add-one}
+use native.Mathlib.Omega.{arith}
+use Rattle.std.proofs.shelf.Bits.{one-shl}
+use Rattle.line.specs.Stages.{withBit}
+use Rattle.line.proofs.stages.with_bit.Needs as need
+
+-- twice as much room for one bit more
+doubled : (k : ℕ) → 2 ^ (k + 1) ≡ 2 ^ k + 2 ^ k
+doubled k = ap (λ (n : ℕ). 2 ^ n) (add-one k) ∙ two-pow-succ k
+
+pub returns-then-level : need.returns-then-level
+returns-then-level c =
+    let k = c .args .count in
+    let b = c .args .bits in
+    let whole : (1 * 2 ^ k) % 256 ≡ 2 ^ k = one-shl k 8 (c .pre .count) in
+    let room = doubled k in
+    record {
+      value = ap (λ (n : ℕ). b + n) whole ∙ ap (λ (l : Bool). withBit k l b) (sym (c .if-level .taken));
+      bound = omega (arith, whole, room, c .pre .bits);
+    }
+
+pub returns-else-level : need.returns-else-level
+returns-else-level c =
+    let k = c .args .count in
+    let room = doubled k in
+    record { value = ap (λ (l : Bool). withBit k l (c .args .bits)) (sym (c .if-level .left)); bound = omega (arith, room, c .pre .bits) }

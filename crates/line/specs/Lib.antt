@@ -1,0 +1,5 @@
+pub mod Stages
+pub mod Seats
+pub mod Kinds
+pub mod Sockets
+pub mod Sending
