@@ -15,6 +15,7 @@ mod tag;
 mod tags;
 
 pub use master::read_bit;
+pub use master::read_byte;
 pub use master::send_bit;
 pub use master::send_byte;
 pub use pair::Pair;

@@ -2,9 +2,10 @@
 ghost use mathlib.Core.Path.{_≡_};
 ghost use Rattle.address.specs.Bits.{bits};
 ghost use Rattle.line.specs.Seats.{drivesLine};
-ghost use Rattle.line.specs.Sending.{sentBit, sent};
+ghost use Rattle.line.specs.Sending.{sentBit, sent, readOn, readValue};
 ghost use mathlib.Core.Bool.{true};
 use crate::Line;
+use crate::stages::with_bit;
 
 // Sends a bit: the level is the bit, unless a seat drives 0.
 pub fn send_bit<L: Line>(line: &mut L, bit: bool)
@@ -37,4 +38,24 @@ fn send_bits<L: Line>(line: &mut L, byte: u8)
     for k in 0..8u8 {
         send_bit(line, (byte >> k) % 2 == 1);
     }
+}
+
+// Reads a byte, its lowest bit first.
+pub fn read_byte<L: Line>(line: &mut L) -> u8
+    ensures value { λ r. ⌜ r ≡ readValue 8 (L·Line .seats (now (line .entry))) ⌝ }
+    ensures after { λ _. ⌜ L·Line .seats (now (line .exit)) ≡ readOn 8 (L·Line .seats (now (line .entry))) ⌝ }
+{
+    read_bits(line)
+}
+
+fn read_bits<L: Line>(line: &mut L) -> u8
+    ensures value { λ r. ⌜ r ≡ readValue 8 (L·Line .seats (now (line .entry))) ⌝ }
+    ensures after { λ _. ⌜ L·Line .seats (now (line .exit)) ≡ readOn 8 (L·Line .seats (now (line .entry))) ⌝ }
+{
+    let mut byte = 0;
+    for k in 0..8u8 {
+        let level = read_bit(line);
+        byte = with_bit(k, level, byte);
+    }
+    byte
 }

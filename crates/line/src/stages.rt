@@ -144,7 +144,7 @@ impl Stage {
 }
 
 // The level as bit k of what came before.
-fn with_bit(count: u8, level: bool, bits: u8) -> u8
+pub(crate) fn with_bit(count: u8, level: bool, bits: u8) -> u8
     requires count { ⌜ count < 8 ⌝ }
     requires bits { ⌜ bits < 2 ^ count ⌝ }
     ensures value { λ r. ⌜ r ≡ withBit count level bits ⌝ }

@@ -1,16 +1,11 @@
 use mathlib.Core.Path.{_≡_, ap, sym, _∙_}
 use mathlib.Core.Bool.{Bool}
 use Prim.Native.Nat.{ℕ, _+_, _*_, _%_, _^_}
-use native.Mathlib.Nat.{two-pow-succ}
-use native.Mathlib.Numerals.{add-one}
 use native.Mathlib.Omega.{arith}
 use Rattle.std.proofs.shelf.Bits.{one-shl}
 use Rattle.line.specs.Stages.{withBit}
+use Rattle.line.proofs.Sends.{doubled}
 use Rattle.line.proofs.stages.with_bit.Needs as need
-
--- twice as much room for one bit more
-doubled : (k : ℕ) → 2 ^ (k + 1) ≡ 2 ^ k + 2 ^ k
-doubled k = ap (λ (n : ℕ). 2 ^ n) (add-one k) ∙ two-pow-succ k
 
 pub returns-then-level : need.returns-then-level
 returns-then-level c =
