@@ -5,6 +5,7 @@ ghost use Rattle.line.specs.Seats.{takesSeat, resetSeat, drivesLine, occupied,
 use crate::Line;
 use crate::presence::Presence;
 
+#[derive(Drop)]
 pub struct Pair<A, B> {
     pub first: A,
     pub second: B,

@@ -8,6 +8,7 @@ ghost use Rattle.line.specs.Sockets.{numberOf, isAttached};
 use crate::Line;
 use crate::presence::Presence;
 
+#[derive(Drop)]
 pub struct Socket<L> {
     pub line: L,
     attached: bool,

@@ -21,6 +21,7 @@ use line::Tag;
 use line::TagLine;
 
 // Its address and stage are a tag's; once that is chosen, slots go to the store.
+#[derive(Clone, Copy)]
 pub struct Pack {
     tag: Tag,
     store: Store,
