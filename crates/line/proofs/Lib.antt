@@ -1,2 +1,3 @@
 pub mod Joins
 pub mod Sends
+pub mod Matches

@@ -3,3 +3,4 @@ pub mod Seats
 pub mod Kinds
 pub mod Sockets
 pub mod Sending
+pub mod Matching

@@ -5,6 +5,7 @@ ghost use Rattle.line.specs.Seats.{Seat, takesSeat, resetSeat, drivesLine, occ
 ghost use Prim.Native.Nat.{_^_, _<_};
 ghost use Rattle.std.specs.shelf.Lists.{All};
 
+mod choosing;
 mod master;
 mod pair;
 mod presence;
@@ -14,6 +15,7 @@ mod stages;
 mod tag;
 mod tags;
 
+pub use choosing::match_address;
 pub use master::read_bit;
 pub use master::read_byte;
 pub use master::send_bit;
