@@ -1,7 +1,8 @@
 -- Search order: at the lowest bit at which two addresses differ, the one with 0 comes first. Assumes nothing.
-use Rattle.std.specs.Prelude.{◌≡◌, ℕ, ◌<◌, true, false, ◌⊎◌}
+use Rattle.std.specs.Prelude.{◌≡◌, ℕ, zero, suc, ◌<◌, true, false, ◌⊎◌}
 use Rattle.std.specs.declared.cmp.Ordering.{Ordering}
-use Rattle.std.specs.Ordering.{MatchOrdering}
+use Rattle.std.specs.declared.cmp.Ordering.TheVariants.{Equal}
+use Rattle.std.specs.Ordering.{MatchOrdering, ordering_then, bool_cmp}
 use Rattle.address.specs.declared.Address.{Address}
 use Rattle.address.specs.Bits.{bit}
 use Rattle.address.specs.Parts.{number}
@@ -19,6 +20,15 @@ pub record StrictTotal (R : ℕ → ℕ → Type 0) : Type 0 where
   pub irreflexive : (a : ℕ) → R a a → ⊥
   pub transitive : (a b c : ℕ) → R a b → R b c → R a c
   pub total : (a b : ℕ) → (a ≡ b) ⊎ (R a b ⊎ R b a)
+
+-- how a and b stand by their lowest k bits: the first of them at which they differ decides
+unfoldable pub ranked : ℕ → ℕ → ℕ → Ordering
+ranked zero a b = Equal
+ranked (suc k) a b = ordering_then (ranked k a b) (bool_cmp (bit k a) (bit k b))
+
+-- how two addresses stand in search order, by all their bits
+abbrev pub search_cmp : Address → Address → Ordering
+search_cmp x y = ranked 64 (number x) (number y)
 
 -- what a comparison of two addresses answers: which comes first, or that they are the same
 abbrev pub Ranking : Address → Address → Ordering → Type 0

@@ -1,4 +1,6 @@
 // The 64-bit address by which a pack is known on the line.
+#![tactic(auto)]
+
 ghost use Rattle.std.specs.Prelude.{◌≡◌, [], ◌∷◌};
 ghost use Rattle.address.specs.Bits.{bit};
 ghost use Rattle.address.specs.CheckByte.{check_byte};

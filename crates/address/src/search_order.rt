@@ -1,18 +1,17 @@
 // Search order: at the lowest bit at which two addresses differ, the one with 0 comes first.
-ghost use Rattle.std.specs.Prelude.{◌≡◌, IsSomeAnd};
-ghost use Rattle.std.specs.Ordering.{MatchOrdering};
+ghost use Rattle.std.specs.Prelude.{◌≡◌};
+ghost use Rattle.std.specs.Ordering.{MatchOrdering, as_partial_cmp};
 ghost use Rattle.std.specs.Cmp.{IsTotalOrder};
-ghost use Rattle.address.specs.SearchOrder.{Before, StrictTotal, Ranking};
-ghost use Rattle.std.specs.Cmp.Rules.{comparing};
-ghost use Rattle.std.proofs.Common.{rules};
+ghost use Rattle.address.specs.SearchOrder.{Before, StrictTotal, Ranking, ranked, search_cmp};
+ghost use Rattle.address.proofs.Orders.{addresses, orders_partly, orders_as_equal};
 
 use crate::{Address, bit_of};
 use std::cmp::Ordering;
 
 impl PartialOrd for Address {
-    ghost compares = { λ x y r. IsSomeAnd r (Ranking x y) };
+    ghost partial_cmp = { as_partial_cmp search_cmp };
 
-    ghost laws = { Prim.search (comparing, rules) };
+    ghost laws = { orders_partly };
 
     fn partial_cmp(&self, other: &Address) -> Option<Ordering> {
         Some(self.cmp(other))
@@ -20,18 +19,20 @@ impl PartialOrd for Address {
 }
 
 impl Ord for Address {
-    ghost orders = { Ranking };
+    ghost cmp = { search_cmp };
 
-    ghost total = { Prim.search (comparing, rules) };
+    ghost total = { addresses };
 
-    ghost matches_partial_cmp = { Prim.search (comparing, rules) };
+    ghost matches_partial_cmp = { λ x y. refl };
 
-    ghost matches_eq = { Prim.search (comparing, rules) };
+    ghost matches_eq = { orders_as_equal };
 
     fn cmp(&self, other: &Address) -> Ordering
+        ensures value { result ≡ search_cmp self.now other.now }
         ensures answer { Ranking self.now other.now result }
         ensures law { StrictTotal Before }
-        ensures sorts { IsTotalOrder Ranking }
+        ensures sorts { IsTotalOrder search_cmp }
+        ensures ranks { (x y : Address) → Ranking x y (search_cmp x y) }
     {
         compared(self.bits, other.bits)
     }
@@ -39,9 +40,11 @@ impl Ord for Address {
 
 // How two numbers stand in search order.
 fn compared(a: u64, b: u64) -> Ordering
+    ensures value { result ≡ ranked 64 a b }
     ensures answer { MatchOrdering result (Before a b) (a ≡ b) (Before b a) }
     ensures law { StrictTotal Before }
-    ensures sorts { IsTotalOrder Ranking }
+    ensures sorts { IsTotalOrder search_cmp }
+    ensures ranks { (x y : Address) → Ranking x y (search_cmp x y) }
 {
     for k in 0..64 {
         let first = bit_of(a, k);

@@ -1,4 +1,6 @@
 // A simulated DS2760's memory: what a chosen pack does with slots, ticks and measurements.
+#![tactic(auto)]
+
 mod blocks;
 mod commands;
 mod laws;

@@ -1,4 +1,6 @@
 // What a pack measures: counts, registers, and the charge that it accumulates.
+#![tactic(auto)]
+
 mod accumulate;
 mod accumulator;
 mod cases;

@@ -1,4 +1,6 @@
 // The 1-Wire line: one interface, and the kinds of simulated line there are.
+#![tactic(auto)]
+
 ghost use Rattle.std.specs.Prelude.{◌≡◌, ◌^◌, ◌<◌, List, map};
 ghost use Rattle.line.specs.Seats.{Seat, takes_seat, reset_seat, drives_line, occupied, presence};
 ghost use Rattle.std.specs.List.{AllByRecursion as All};

@@ -1,4 +1,6 @@
 // The listing of the addresses on a line, pass by pass, while packs come and go.
+#![tactic(auto)]
+
 ghost use Rattle.std.specs.Prelude.{◌≡◌, [], IfOk, Some, None, MatchResult};
 ghost use Rattle.line.specs.Searching.{on_line};
 ghost use Rattle.listing.specs.Calls.{Passed};

@@ -1,3 +1,5 @@
 // The tests of the listing.
+#![tactic(auto)]
+
 #[cfg(test)]
 mod tests;

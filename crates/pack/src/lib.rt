@@ -1,4 +1,6 @@
 // A pack: a DS2760 at an address on the line.
+#![tactic(auto)]
+
 ghost use Rattle.std.specs.Prelude.{◌≡◌, true, false, [], ◌∷◌, map, MatchResult};
 ghost use Rattle.address.specs.Parts.{number};
 ghost use Rattle.ds2760.specs.Map.{held};

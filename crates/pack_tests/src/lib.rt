@@ -1,4 +1,6 @@
 // The tests of the line and of packs on it.
+#![tactic(auto)]
+
 ghost use Rattle.std.specs.Prelude.{[], ◌∷◌, ◌++◌, OnOk};
 ghost use Rattle.ds2760.specs.Runs.{tick, reset};
 ghost use Rattle.line.specs.Seats.{through};

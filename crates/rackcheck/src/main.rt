@@ -1,4 +1,6 @@
 // Reads a rack file on standard input and prints what it holds, or the number with which it is refused.
+#![tactic(auto)]
+
 use rackfile::report;
 use std::io::Read;
 

@@ -1,4 +1,6 @@
 // The rack file: which packs a rack should have, and what they are called.
+#![tactic(auto)]
+
 ghost use Rattle.std.specs.Prelude.{◌≡◌, map, MatchResult};
 ghost use Rattle.rackfile.specs.declared.Refusal.TheVariants.{Memory};
 ghost use Rattle.rackfile.specs.Files.{Measured, listed, width_of, entries_of};

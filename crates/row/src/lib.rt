@@ -1,4 +1,6 @@
 // A row: many lines of one kind on one wire.
+#![tactic(auto)]
+
 ghost use Rattle.std.specs.Prelude.{◌≡◌, map};
 ghost use Rattle.std.specs.List.{flat_map};
 ghost use Rattle.line.specs.Seats.{takes_seat, reset_seat, drives_line, occupied, presence};
