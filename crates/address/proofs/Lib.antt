@@ -1,7 +1,5 @@
-pub mod Numbers
 pub mod Tables
 pub mod Registers
 pub mod Bytes
 pub mod Division
 pub mod Digits
-pub mod Orders

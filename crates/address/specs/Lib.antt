@@ -4,3 +4,5 @@ pub mod Division
 pub mod Hexadecimal
 pub mod Parts
 pub mod SearchOrder
+pub mod Numbers
+pub mod Orders

@@ -1,5 +1,5 @@
 -- Search order: at the lowest bit at which two addresses differ, the one with 0 comes first. Assumes nothing.
-use Rattle.std.specs.Prelude.{◌≡◌, ℕ, zero, suc, ◌<◌, true, false, ◌⊎◌}
+use Rattle.std.specs.Prelude.{◌≡◌, ℕ, zero, suc, ◌+◌, ◌<◌, true, false, ◌⊎◌}
 use Rattle.std.specs.declared.cmp.Ordering.{Ordering}
 use Rattle.std.specs.declared.cmp.Ordering.TheVariants.{Equal}
 use Rattle.std.specs.Ordering.{MatchOrdering, ordering_then, bool_cmp}
@@ -26,9 +26,13 @@ unfoldable pub ranked : ℕ → ℕ → ℕ → Ordering
 ranked zero a b = Equal
 ranked (suc k) a b = ordering_then (ranked k a b) (bool_cmp (bit k a) (bit k b))
 
--- how two addresses stand in search order, by all their bits
+-- how a and b stand in search order: bit a + b and those above it are 0 in both
+abbrev pub standing : ℕ → ℕ → Ordering
+standing a b = ranked (a + b) a b
+
+-- how two addresses stand in search order
 abbrev pub search_cmp : Address → Address → Ordering
-search_cmp x y = ranked 64 (number x) (number y)
+search_cmp x y = standing (number x) (number y)
 
 -- what a comparison of two addresses answers: which comes first, or that they are the same
 abbrev pub Ranking : Address → Address → Ordering → Type 0

@@ -2,8 +2,8 @@
 ghost use Rattle.std.specs.Prelude.{◌≡◌};
 ghost use Rattle.std.specs.Ordering.{MatchOrdering, as_partial_cmp};
 ghost use Rattle.std.specs.Cmp.{IsTotalOrder};
-ghost use Rattle.address.specs.SearchOrder.{Before, StrictTotal, Ranking, ranked, search_cmp};
-ghost use Rattle.address.proofs.Orders.{addresses, orders_partly, orders_as_equal};
+ghost use Rattle.address.specs.SearchOrder.{Before, StrictTotal, Ranking, standing, search_cmp};
+ghost use Rattle.address.specs.Orders.{addresses, orders_agree, orders_partly, orders_as_equal};
 
 use crate::{Address, bit_of};
 use std::cmp::Ordering;
@@ -23,7 +23,7 @@ impl Ord for Address {
 
     ghost total = { addresses };
 
-    ghost matches_partial_cmp = { λ x y. refl };
+    ghost matches_partial_cmp = { orders_agree };
 
     ghost matches_eq = { orders_as_equal };
 
@@ -40,7 +40,7 @@ impl Ord for Address {
 
 // How two numbers stand in search order.
 fn compared(a: u64, b: u64) -> Ordering
-    ensures value { result ≡ ranked 64 a b }
+    ensures value { result ≡ standing a b }
     ensures answer { MatchOrdering result (Before a b) (a ≡ b) (Before b a) }
     ensures law { StrictTotal Before }
     ensures sorts { IsTotalOrder search_cmp }

@@ -4,7 +4,7 @@ use mathlib.Core.Bool.{beq}
 use Rattle.std.proofs.lemmas.Bool.{and_from, and_parts, both_ways, eq-eqb, ne_eqb, cases_eq}
 use Rattle.address.specs.Bits.{bit}
 use Rattle.address.specs.SearchOrder.{Agree}
-use Rattle.address.proofs.Numbers.{agree_same}
+use Rattle.address.specs.Numbers.{agree_same}
 use Rattle.line.specs.Searching.{agree}
 
 pub beq_true : (b c : Bool) → beq b c ≡ true → b ≡ c

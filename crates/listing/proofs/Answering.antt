@@ -7,7 +7,7 @@ use Rattle.std.proofs.lemmas.Bool.{both_ways, and_parts, and_from, or_cases, or_
 use Rattle.std.specs.List.{AllByRecursion as All}
 use Rattle.address.specs.Bits.{bit}
 use Rattle.address.specs.SearchOrder.{Agree}
-use Rattle.address.proofs.Numbers.{bit_beyond}
+use Rattle.address.specs.Numbers.{bit_beyond}
 use Rattle.line.specs.Searching.{agree, answered}
 use Rattle.line.specs.Stages.{with_bit}
 use Rattle.line.proofs.Agrees.{agree_bits, beq_true, beq_self}

@@ -4,7 +4,7 @@ use Rattle.std.specs.List.{range_with_len}
 use Rattle.std.proofs.lemmas.List.FromFn.{fill_by_all}
 use Rattle.std.proofs.lemmas.Bool.{both_ways, cases_eq, cases_lt, cond-true, cond-false}
 use Rattle.address.specs.SearchOrder.{Before}
-use Rattle.address.proofs.Orders.{search_order}
+use Rattle.address.specs.Orders.{search_order}
 use Rattle.listing.specs.Runs.{On}
 use Rattle.listing.specs.Still.{Different, open_bits}
 

@@ -5,7 +5,7 @@ use Rattle.std.proofs.lemmas.Bool.{both_ways, and_parts, cond-true, cond-false, 
 use Rattle.address.specs.Bits.{bit}
 use Rattle.address.specs.Parts.{right}
 use Rattle.address.specs.SearchOrder.{Agree}
-use Rattle.address.proofs.Numbers.{agree_more}
+use Rattle.address.specs.Numbers.{agree_more}
 use Rattle.line.specs.declared.signal.Signal.{Signal}
 use Rattle.line.specs.declared.signal.Signal.TheVariants.{Reset, Slot}
 use Rattle.line.specs.declared.stage.Stage.{Stage}

@@ -5,8 +5,8 @@ use Rattle.std.proofs.lemmas.Bool.{both_ways, and_parts, and_from, cases_Bool, c
 use Rattle.address.specs.Bits.{bit}
 use Rattle.address.specs.Parts.{right}
 use Rattle.address.specs.SearchOrder.{Agree, Before}
-use Rattle.address.proofs.Numbers.{bit_beyond}
-use Rattle.address.proofs.Orders.{search_order}
+use Rattle.address.specs.Numbers.{bit_beyond}
+use Rattle.address.specs.Orders.{search_order}
 use Rattle.line.specs.Searching.{answered}
 use Rattle.listing.specs.Rule.{State, Walk, silent, stopped, reached, found, spoilt, closed_at, deepest, closing, told, told_value, wanted, forks, walk, searched, outcome_of, opens_by, passed}
 use Rattle.listing.specs.Runs.{On, Narrow}

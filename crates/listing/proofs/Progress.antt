@@ -2,7 +2,7 @@
 use Rattle.std.proofs.Common.{◌≡◌, ℕ, zero, suc, ◌+◌, ◌-◌, ◌^◌, ◌<◌, ◌≤◌, max, Bool, true, false, cond, not, ◌&&◌, leb, ◌⊎◌, List, [], ◌∷◌, length, get_or, is_some, Some, None, Decides, Option, sym, refl, ap, ◌∙◌, subst, inl, inr, ⊎_elim, arith}
 use Rattle.std.specs.List.{range_with_len, AllByRecursion as All}
 use Rattle.std.proofs.lemmas.Bool.{both_ways, and_parts, and_from, and_left, cond-true, cond-false, not-true, lt-leb}
-use Rattle.address.proofs.Orders.{search_order}
+use Rattle.address.specs.Orders.{search_order}
 use Rattle.line.specs.Searching.{answered}
 use Rattle.listing.specs.declared.answer.PassRefusal.TheVariants.{Complete, LimitReached}
 use Rattle.listing.specs.Rule.{State, deepest, outcome, passed, pass_refusal}

@@ -5,7 +5,7 @@ use Rattle.std.proofs.ByRecursion.{All-push}
 use Rattle.std.proofs.lemmas.List.{append-nil, append_assoc}
 use Rattle.std.proofs.lemmas.Bool.{eq-eqb, ne_eqb}
 use Rattle.address.specs.SearchOrder.{Before}
-use Rattle.address.proofs.Orders.{search_order}
+use Rattle.address.specs.Orders.{search_order}
 use Rattle.listing.specs.Runs.{Pass, On, times, Rising, NoneOpen, EndsClosed}
 use Rattle.listing.proofs.Answering.{all_on}
 

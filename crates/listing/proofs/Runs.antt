@@ -6,7 +6,7 @@ use Rattle.std.proofs.lemmas.List.{append-nil, get_or_past, get_or-replicate, le
 use Rattle.std.proofs.lemmas.Bool.{both_ways, cases_lt, cond-true, leb-false, ltb-false}
 use Rattle.address.specs.Parts.{right}
 use Rattle.address.specs.SearchOrder.{Before}
-use Rattle.address.proofs.Orders.{search_order}
+use Rattle.address.specs.Orders.{search_order}
 use Rattle.listing.specs.declared.answer.BeginRefusal.{BeginRefusal}
 use Rattle.listing.specs.declared.answer.BeginRefusal.TheVariants.{LimitTooHigh}
 use Rattle.listing.specs.declared.answer.PassRefusal.{PassRefusal}

@@ -3,7 +3,7 @@ use Rattle.std.proofs.Common.{◌≡◌, ℕ, zero, suc, ◌+◌, ◌<◌, ◌�
 use Rattle.std.proofs.lemmas.List.{length-append}
 use Rattle.std.proofs.lemmas.Bool.{both_ways, cases_Bool, le-ltb}
 use Rattle.address.specs.SearchOrder.{Before}
-use Rattle.address.proofs.Orders.{search_order}
+use Rattle.address.specs.Orders.{search_order}
 use Rattle.line.specs.Searching.{answered}
 use Rattle.listing.specs.declared.answer.BeginRefusal.TheVariants.{LimitTooHigh}
 use Rattle.listing.specs.Rule.{State, begun, deepest, outcome, lists, passed, pass_refusal}

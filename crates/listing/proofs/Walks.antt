@@ -4,7 +4,7 @@ use Rattle.std.proofs.lemmas.List.{get_or-set_same, get_or-set_other, length-set
 use Rattle.std.proofs.lemmas.Bool.{both_ways, cases_Bool, cases_eq, cond-true, cond-false, and_parts, and_cases, not-true, not-false, leb-true, le-leb}
 use Rattle.address.specs.Bits.{bit}
 use Rattle.address.specs.SearchOrder.{Agree}
-use Rattle.address.proofs.Numbers.{agree_same, agree_more}
+use Rattle.address.specs.Numbers.{agree_same, agree_more}
 use Rattle.line.specs.Searching.{answered}
 use Rattle.line.specs.Stages.{with_bit}
 use Rattle.listing.specs.Rule.{Walk, silent, stopped, reached, told, told_value, wanted, forks, walk}

@@ -1,6 +1,6 @@
 use Rattle.std.proofs.Common.{◌^◌, ◌<◌, sym, ◌∙◌, arith}
 use Rattle.std.proofs.lemmas.Bool.{le-ltb}
-use Rattle.address.proofs.Numbers.{bit_beyond}
+use Rattle.address.specs.Numbers.{bit_beyond}
 use Rattle.address.proofs.bit_of.Goals as goal
 
 pub returns-else-k-lt64 : goal.returns-else-k-lt64

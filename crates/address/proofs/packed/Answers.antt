@@ -5,5 +5,5 @@ use Rattle.address.proofs.packed.Goals as goal
 
 pub returns : goal.returns
 returns c =
-    let value = c.from-le-bytes.ensures ∙ received_eight c.args.bytes.now c.told-bytes in
+    let value = c.from_le_bytes.ensures ∙ received_eight c.args.bytes.now c.told-bytes in
     record { value = value; back = ap sent value ∙ sent_received c.args.bytes.now c.told-bytes c.fits-bytes }

@@ -13,7 +13,7 @@ loop-byte-preserved c =
     let i = c.loop-byte.byte-index in
     let bytes = c.args.bytes.now in
     let rest = flat_map bits (drop (i + 1) bytes) in (
-      c.feed-register.type-inv,
+      c.feed-register.type_inv,
       ap (λ (n : ℕ). fed rest (stages n)) c.feed-register.ensures
           ∙ sym (fed_byte bytes i c.loop-byte.register c.loop-byte-test.true)
           ∙ c.loop-byte.invariant.1,

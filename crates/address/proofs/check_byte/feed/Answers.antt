@@ -8,7 +8,7 @@ use Rattle.address.proofs.check_byte.feed.Goals as goal
 pub loop-k-preserved : goal.loop-k-preserved
 loop-k-preserved c =
     let rest = drop (c.loop-k.k + 1) (bits c.args.byte) in (
-      c.shift-register.type-inv,
+      c.shift-register.type_inv,
       ap (λ (n : ℕ). fed rest (stages n)) c.shift-register.ensures
           ∙ sym (fed_bit c.args.byte c.loop-k.k c.loop-k.register c.loop-k-test.true)
           ∙ c.loop-k.invariant.1,

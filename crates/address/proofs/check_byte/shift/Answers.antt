@@ -3,7 +3,7 @@ use mathlib.Core.Bool.{beq}
 use lib.Bits.{bit_xor}
 use Rattle.address.specs.Bits.{bit}
 use Rattle.address.specs.CheckByte.{xor, shifted, byte_of, stages}
-use Rattle.address.proofs.Numbers.{bit_zero}
+use Rattle.address.specs.Numbers.{bit_zero}
 use Rattle.address.proofs.Registers.{turn_shifts}
 use Rattle.address.proofs.check_byte.shift.Goals as goal
 

@@ -12,8 +12,8 @@ returns-clause-writes g c = λ plain ok.
     let b = c.args.self.now.0 in
     let took = g.W.Write.write_str_gives in
     let small : b < 256 = omega arith in
-    let first = c.write-char.ensures.writes plain (ap is_ok c.in-ok-write-char.was) in
-    let second = c.write-char-2.ensures.writes first.plain ok in
+    let first = c.write_char.ensures.writes plain (ap is_ok c.in_ok-write_char.was) in
+    let second = c.write_char-2.ensures.writes first.plain ok in
     let high : encode c.digit.result ≡ hex_digit (b / 16) ∷ [] = ap encode c.digit.ensures ∙ encode_ascii _ (hex_digit_ascii (b / 16) (omega arith)) in
     let low : encode c.digit-2.result ≡ hex_digit (b % 16) ∷ [] = ap encode c.digit-2.ensures ∙ encode_ascii _ (hex_digit_ascii (b % 16) (omega arith)) in
     has_written_of_eq took _ _ _ _ (λ i. high i ++ low i) (has_written_append took _ _ _ _ _ first second)

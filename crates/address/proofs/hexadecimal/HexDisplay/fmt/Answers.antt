@@ -17,7 +17,7 @@ loop-byte-preserved g c = λ plain.
     let bytes = c.args.self.now.0.now in
     let i = c.loop-byte.byte-index in
     let before = c.loop-byte.invariant plain in
-    let one = c.write.ensures.shows before.plain (ap is_ok c.in-ok-write.was) in
+    let one = c.write.ensures.writes before.plain (ap is_ok c.in_ok-write.was) in
     has_written_of_eq took _ _ _ _ (sym (hexadecimal_more bytes i c.loop-byte-test.true)) (has_written_append took _ _ _ _ _ before one)
 
 pub returns-clause-writes : goal.returns-clause-writes
