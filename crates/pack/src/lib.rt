@@ -1,13 +1,14 @@
 // A pack: a DS2760 at an address on the line.
 #![tactic(auto)]
 
-ghost use Rattle.std.specs.Prelude.{◌≡◌, true, false, [], ◌∷◌, map, MatchResult};
+ghost use Rattle.std.specs.Prelude.{◌≡◌, true, false, [], ◌∷◌, map, Some, MatchResult};
 ghost use Rattle.address.specs.Parts.{number};
 ghost use Rattle.ds2760.specs.Map.{held};
 ghost use Rattle.gauge.specs.Measures.{in_range};
 ghost use Rattle.ds2760.specs.Runs.{slot, reset, tick, measure};
 ghost use Rattle.line.specs.declared.presence.Presence.TheVariants.{Present};
 ghost use Rattle.line.specs.Seats.{takes_seat, reset_seat};
+ghost use Rattle.line.specs.Lives.{LawfulHistory, FollowsBy, HistoriesAreLawful};
 ghost use Rattle.pack.specs.Lives.{LawfulSeat, FollowsSeat, LivesAreLawful};
 ghost use Rattle.pack.specs.Packs.{seat_of, new_seat, store_of, ticked_seat, measured_seat};
 ghost use Rattle.std.proofs.Common.{rules};
@@ -29,6 +30,7 @@ impl Pack {
     pub fn new(address: Address, eeprom: [u8; 32]) -> Pack
         ensures made { seat_of result ≡ new_seat (number address) eeprom }
         ensures lawful { LawfulSeat (number address) eeprom [] (seat_of result) }
+        ensures history { LawfulHistory (record { address = number address; eeprom = Some eeprom; calls = [] }) (seat_of result) }
     {
         Pack::deaf(address, &eeprom)
     }
@@ -36,8 +38,10 @@ impl Pack {
     fn deaf(address: Address, eeprom: &[u8; 32]) -> Pack
         ensures made { seat_of result ≡ new_seat (number address) eeprom.now }
         ensures lawful { LawfulSeat (number address) eeprom.now [] (seat_of result) }
+        ensures history { LawfulHistory (record { address = number address; eeprom = Some eeprom.now; calls = [] }) (seat_of result) }
     {
         laws();
+        histories();
         Pack::seated(address, eeprom)
     }
 
@@ -61,8 +65,10 @@ impl Pack {
     pub fn tick(&mut self)
         ensures after { seat_of self.new ≡ ticked_seat (seat_of self.old) }
         ensures lawful { FollowsSeat tick (seat_of self.old) (seat_of self.new) }
+        ensures history { FollowsBy (tick ∷ []) (seat_of self.old) (seat_of self.new) }
     {
         laws();
+        histories();
         self.store.tick();
     }
 
@@ -70,8 +76,10 @@ impl Pack {
     pub fn measure(&mut self, measurement: Measurement) -> Result<(), Refusal>
         ensures cases { MatchResult result (λ _. (in_range measurement ≡ true) × (seat_of self.new ≡ measured_seat measurement (seat_of self.old))) (λ _. (in_range measurement ≡ false) × (seat_of self.new ≡ seat_of self.old)) }
         ensures lawful { FollowsSeat (measure measurement) (seat_of self.old) (seat_of self.new) }
+        ensures history { FollowsBy (measure measurement ∷ []) (seat_of self.old) (seat_of self.new) }
     {
         laws();
+        histories();
         self.store.measure(measurement)
     }
 }
@@ -91,8 +99,10 @@ impl Line for Pack {
     fn slot(&mut self, level: bool)
         ensures after { seat_of self.new ∷ [] ≡ map (takes_seat level) (seat_of self.old ∷ []) }
         ensures lawful { FollowsSeat (slot level) (seat_of self.old) (seat_of self.new) }
+        ensures history { FollowsBy (slot level ∷ []) (seat_of self.old) (seat_of self.new) }
     {
         laws();
+        histories();
         if self.tag.is_chosen() {
             self.store.slot(level);
         } else {
@@ -104,8 +114,10 @@ impl Line for Pack {
         ensures present { result ≡ Present }
         ensures after { seat_of self.new ∷ [] ≡ map reset_seat (seat_of self.old ∷ []) }
         ensures lawful { FollowsSeat reset (seat_of self.old) (seat_of self.new) }
+        ensures history { FollowsBy (reset ∷ []) (seat_of self.old) (seat_of self.new) }
     {
         laws();
+        histories();
         self.store.reset();
         self.tag.reset()
     }
@@ -114,4 +126,9 @@ impl Line for Pack {
 // Does nothing: a caller knows the law of a pack's life after it.
 fn laws()
     ensures { LivesAreLawful }
+{}
+
+// Does nothing: a caller knows the law of a seat's history after it.
+fn histories()
+    ensures { HistoriesAreLawful }
 {}
