@@ -16,6 +16,6 @@ pub returns-in-One : goal.returns-in-One
 returns-in-One c =
     let from = c.args.from.now in
     let into = c.args.into.now in
-    ap (put_mid 16 16 into) c.copy-from-slice-in-One.ensures.after
+    ap (put_mid 16 16 into) c.copy_from_slice-in-One.ensures.after
     ∙ upper from into c.told-from c.told-into
     ∙ ap (λ (b : Block). replaced b from into) (sym c.in-One.is)
