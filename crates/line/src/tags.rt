@@ -4,7 +4,7 @@ ghost use Rattle.address.specs.Parts.{number};
 ghost use Rattle.line.specs.Kinds.{seat_of, new_seat};
 ghost use Rattle.line.specs.Lives.{LawfulHistory, HistoriesAreLawful};
 ghost use Rattle.line.specs.Seats.{is_chosen};
-ghost use Rattle.std.proofs.Common.{rules, arith};
+ghost use Rattle.std.proofs.Common.{rules};
 
 use crate::Line;
 use crate::presence::Presence;
@@ -36,7 +36,7 @@ impl Tag {
 impl Line for Tag {
     ghost seats = { λ t. seat_of t ∷ [] };
 
-    ghost narrow = { first_of (Prim.search rules, Prim.grind (arith, Self.row.coded.inj)) };
+    ghost narrow = { Prim.search rules };
 
     fn drive(&self) -> bool {
         self.stage.drives(self.address)

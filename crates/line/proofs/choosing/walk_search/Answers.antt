@@ -13,7 +13,7 @@ pub loop-k-preserved : goal.loop-k-preserved
 loop-k-preserved g c = λ ss e.
     let a = number c.args.address in
     let k = c.loop-k.k in
-    c.send-bit.ensures.after
+    c.send_bit.ensures.after
     ∙ ap (λ (b : Bool). sent_bit b (g.L.Line.seats c.ask.new.line)) c.bit.ensures
     ∙ ap (sent_bit (bit k a)) c.ask.ensures.after
     ∙ ap (λ (l : List Seat). sent_bit (bit k a) (sent_bit true (sent_bit true l))) (c.loop-k.invariant ss e)
@@ -25,8 +25,8 @@ returns g c =
     let ss = g.L.Line.seats c.args.line.now in
     let narrow = g.met.L.Line.narrow c.args.line.now in
     let small : a < 2 ^ 64 = search rules in
-    let start : g.L.Line.seats c.send-byte.new.line ≡ map (staged (walked search_at a 0)) ss =
-    c.send-byte.ensures.after ∙ ap (sent (bits 0xf0)) (c.reset.ensures.after ∙ reset_staged ss) ∙ search_sent ss in
+    let start : g.L.Line.seats c.send_byte.new.line ≡ map (staged (walked search_at a 0)) ss =
+    c.send_byte.ensures.after ∙ ap (sent (bits 0xf0)) (c.reset.ensures.after ∙ reset_staged ss) ∙ search_sent ss in
     let last : c.loop-k.k ≡ 64 = omega arith in
     let chosen : g.L.Line.seats c.loop-k.line ≡ map (chosen_by a) ss =
     c.loop-k.invariant ss start

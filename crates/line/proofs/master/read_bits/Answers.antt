@@ -12,9 +12,9 @@ loop-k-preserved g c =
     let k = c.loop-k.k in
     let v = c.loop-k.byte in
     let ss = g.L.Line.seats c.loop-k.line in
-    let byte = c.with-bit-byte.ensures.value ∙ ap (λ l. with_bit k l v) c.read-bit-level.ensures.value in
-    let after = c.read-bit-level.ensures.after in (
-      c.with-bit-byte.ensures.bound,
+    let byte = c.with_bit-byte.ensures.value ∙ ap (λ l. with_bit k l v) c.read_bit-level.ensures.value in
+    let after = c.read_bit-level.ensures.after in (
+      c.with_bit-byte.ensures.bound,
       (λ i. byte i + 2 ^ (k + 1) * read_value (8 - (k + 1)) (after i)) ∙ value_more k v ss c.loop-k-test.true ∙ c.loop-k.invariant.1,
       ap (read_on (8 - (k + 1))) after ∙ on_more k ss c.loop-k-test.true ∙ c.loop-k.invariant.2,
     )

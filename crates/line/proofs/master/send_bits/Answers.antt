@@ -9,7 +9,7 @@ use Rattle.line.proofs.master.send_bits.Goals as goal
 pub loop-k-preserved : goal.loop-k-preserved
 loop-k-preserved g c =
     let rest = drop (c.loop-k.k + 1) (bits c.args.byte) in
-    ap (sent rest) c.send-bit.ensures.after
+    ap (sent rest) c.send_bit.ensures.after
     ∙ sym (sent_more c.args.byte c.loop-k.k (g.L.Line.seats c.loop-k.line) c.loop-k-test.true)
     ∙ c.loop-k.invariant
 
