@@ -1,12 +1,12 @@
 -- The bytes of a number. Assumes nothing.
 use Rattle.std.proofs.Common.{◌≡◌, ℕ, ◌+◌, ◌*◌, ◌/◌, ◌%◌, ◌<◌, List, [], ◌∷◌, map, length, get_or, sym, refl, ap, ◌∙◌, arith}
-use Rattle.std.specs.List.{AllByRecursion as All, range_with_len}
+use Rattle.std.specs.List.{AllByRecursion, range_with_len}
 use Rattle.std.proofs.lemmas.List.FromFn.{fill_by_all}
 use Rattle.std.proofs.ByRecursion.{All-from_get_or}
 use Rattle.address.specs.Parts.{low_bytes, sent, received}
 
 -- bytes come back from the number that they make
-pub low_bytes_received : (bs : List ℕ) → All (λ b. b < 256) bs → low_bytes (length bs) (received bs) ≡ bs
+pub low_bytes_received : (bs : List ℕ) → AllByRecursion (λ b. b < 256) bs → low_bytes (length bs) (received bs) ≡ bs
 low_bytes_received [] h = refl
 low_bytes_received (b ∷ bs) h =
     let small : b < 256 = h.0 in

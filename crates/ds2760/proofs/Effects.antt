@@ -1,6 +1,6 @@
 -- What writes, recalls and copies come to. Assumes nothing.
 use Rattle.std.proofs.Common.{◌≡◌, ℕ, zero, suc, ◌+◌, ◌-◌, ◌*◌, ◌/◌, ◌%◌, ◌<◌, ◌≤◌, Bool, true, false, cond, ◌&&◌, eqb, ltb, leb, List, [], ◌∷◌, length, get_or, take, drop, set, ℤ, pos, negsuc, ◌≤ℤ◌, Option, sym, refl, ap, ◌∙◌, subst, arith}
-use Rattle.std.specs.List.{AllByRecursion as All}
+use Rattle.std.specs.List.{AllByRecursion}
 use Rattle.std.proofs.lemmas.Int.{ints}
 use Rattle.std.proofs.lemmas.List.{get_or-set_same, take_at, drop_at, length-take-le}
 use Rattle.std.proofs.lemmas.Bool.{and_parts, leb-true, cond-true, cond-false, ne_eqb, eqb-true, eqb-false}
@@ -23,7 +23,7 @@ in_row P a r p h k true e = let parts = and_parts (leb r.first a) (leb a r.last)
 in_row P a r p h k false e = k
 
 -- what holds at each row's place, where the address is in the row, holds at the place of the address
-in_rows : (P : Place → Type 0) (a : ℕ) (rs : List Row) → All (λ r. r.first ≤ a → a ≤ r.last → P r.place) rs → P reserved → P (place_in rs a)
+in_rows : (P : Place → Type 0) (a : ℕ) (rs : List Row) → AllByRecursion (λ r. r.first ≤ a → a ≤ r.last → P r.place) rs → P reserved → P (place_in rs a)
 in_rows P a [] h k = k
 in_rows P a (r ∷ rs) h k = in_row P a r (place_in rs a) h.0 (in_rows P a rs h.1 k) (leb r.first a && leb a r.last) refl
 
@@ -78,7 +78,7 @@ module _ (s : State) (w : Whole s) (a b : ℕ) (small : b < 256) where
   shadow_back true l = get_or-set_same s.shadow (a - 0x20) b 0 (omega (arith, w.shadow))
   shadow_back false l = refl
 
-  rows_back : All (λ r. r.first ≤ a → a ≤ r.last → Back r.place) rows
+  rows_back : AllByRecursion (λ r. r.first ≤ a → a ≤ r.last → Back r.place) rows
   unfolding Back
   rows_back = (
     λ _ _. refl,

@@ -1,6 +1,6 @@
 -- Worked cases, each with what it comes to. Assumes nothing.
 use Rattle.std.specs.Prelude.{◌≡◌, List, [], ◌∷◌, map, ℤ, pos, negsuc, ◌*ℤ◌}
-use Rattle.std.specs.List.{AllByRecursion as All}
+use Rattle.std.specs.List.{AllByRecursion}
 use Rattle.gauge.specs.Charges.{Charge, whole, added}
 use Rattle.gauge.specs.Measures.{voltage_count, current_count, temperature_count}
 use Rattle.gauge.specs.Registers.{register}
@@ -34,4 +34,4 @@ cases =
 
 -- the rules give in each case what it should be
 abbrev pub Hold : List Case → Type 0
-Hold cs = All (λ c. c.gives ≡ c.told) cs
+Hold cs = AllByRecursion (λ c. c.gives ≡ c.told) cs

@@ -2,7 +2,7 @@
 use Rattle.std.proofs.Common.{◌≡◌, ℕ, zero, suc, ◌+◌, ◌^◌, ◌<◌, Bool, true, false, cond, not, ◌&&◌, ◌||◌, eqb, ltb, List, [], ◌∷◌, ◌++◌, map, Option, sym, refl, ap, ◌∙◌, ⊎_elim, add-one, arith}
 use mathlib.Core.Bool.{beq}
 use Rattle.std.specs.Option.{option_map}
-use Rattle.std.specs.List.{AllByRecursion as All}
+use Rattle.std.specs.List.{AllByRecursion}
 use Rattle.std.proofs.lemmas.List.{map-append}
 use Rattle.std.proofs.lemmas.Bool.{cond-false, cond-true, lt-ltb, le-ltb, cases_lt}
 use Rattle.ds2760.specs.Commands.{after_reset}
@@ -196,7 +196,7 @@ seat_ends here a q s h =
       store = cond s.attached (option_map after_reset s.store) s.store;
     }
 
-pub walk_ends : (here : ℕ → Stage) (a : ℕ) → a < 2 ^ 64 → (ss : List Seat) → All (λ s. s.address < 2 ^ 64) ss → map (staged (walked here a 64)) ss ≡ map (chosen_by a) ss
+pub walk_ends : (here : ℕ → Stage) (a : ℕ) → a < 2 ^ 64 → (ss : List Seat) → AllByRecursion (λ s. s.address < 2 ^ 64) ss → map (staged (walked here a 64)) ss ≡ map (chosen_by a) ss
 walk_ends here a q [] h = refl
 walk_ends here a q (s ∷ ss) h = λ i. seat_ends here a q s h.0 i ∷ walk_ends here a q ss h.1 i
 
@@ -240,13 +240,13 @@ commanded byte levels q s =
     ∙ played_append (slots (bits byte)) (slots levels) (reset_seat s)
     ∙ ap (played (slots levels)) (played_all (bits byte) (λ _. Command 0 0) q s)
 
-pub match_signals_lem : (a : ℕ) → a < 2 ^ 64 → (ss : List Seat) → All (λ s. s.address < 2 ^ 64) ss → map (chosen_by a) ss ≡ map (played (match_signals a)) ss
+pub match_signals_lem : (a : ℕ) → a < 2 ^ 64 → (ss : List Seat) → AllByRecursion (λ s. s.address < 2 ^ 64) ss → map (chosen_by a) ss ≡ map (played (match_signals a)) ss
 match_signals_lem a q [] h = refl
 match_signals_lem a q (s ∷ ss) h =
     let here = commanded 0x55 (match_levels 64 0 a) command_silent s ∙ match_levels_lem 64 0 a s refl ∙ seat_ends Match a q s h.0 in
     λ i. sym here i ∷ match_signals_lem a q ss h.1 i
 
-pub search_signals_lem : (a : ℕ) → a < 2 ^ 64 → (xs : List ℕ) (ss : List Seat) → All (λ s. s.address < 2 ^ 64) ss → map (chosen_by a) ss ≡ map (played (search_signals a xs)) ss
+pub search_signals_lem : (a : ℕ) → a < 2 ^ 64 → (xs : List ℕ) (ss : List Seat) → AllByRecursion (λ s. s.address < 2 ^ 64) ss → map (chosen_by a) ss ≡ map (played (search_signals a xs)) ss
 search_signals_lem a q xs [] h = refl
 search_signals_lem a q xs (s ∷ ss) h =
     let here = commanded 0xf0 (walk_levels 64 0 a xs) command_silent s ∙ search_levels 64 0 a xs s refl ∙ seat_ends search_at a q s h.0 in

@@ -3,7 +3,7 @@
 
 ghost use Rattle.std.specs.Prelude.{◌≡◌, ◌^◌, ◌<◌, List, map};
 ghost use Rattle.line.specs.Seats.{Seat, takes_seat, reset_seat, drives_line, occupied, presence};
-ghost use Rattle.std.specs.List.{AllByRecursion as All};
+ghost use Rattle.std.specs.List.{AllByRecursion};
 
 mod choosing;
 mod master;
@@ -46,5 +46,5 @@ pub trait Line {
         ensures after { seats self.new ≡ map reset_seat (seats self.old) };
 
     // every address has 64 bits
-    ghost narrow: { (x : Self) → All (λ s. s.address < 2 ^ 64) (seats x) };
+    ghost narrow: { (x : Self) → AllByRecursion (λ s. s.address < 2 ^ 64) (seats x) };
 }

@@ -4,7 +4,7 @@ use mathlib.Core.Bool.{beq}
 use native.Mathlib.Nat.{add-mod_right, add-div_right, div-eq_of_lt, two-pow-succ}
 use lib.Pow.{field, mod-mod-pow}
 use Rattle.std.proofs.lemmas.Bool.{both_ways, and_parts, and_from, or_cases, or_left, or_right}
-use Rattle.std.specs.List.{AllByRecursion as All}
+use Rattle.std.specs.List.{AllByRecursion}
 use Rattle.address.specs.Bits.{bit}
 use Rattle.address.specs.SearchOrder.{Agree}
 use Rattle.address.specs.Numbers.{bit_beyond}
@@ -14,7 +14,7 @@ use Rattle.line.proofs.Agrees.{agree_bits, beq_true, beq_self}
 use Rattle.listing.specs.Runs.{On}
 
 -- what holds of all holds of each
-pub all_on : (P : ℕ → Type 0) (xs : List ℕ) (a : ℕ) → All P xs → On a xs → P a
+pub all_on : (P : ℕ → Type 0) (xs : List ℕ) (a : ℕ) → AllByRecursion P xs → On a xs → P a
 all_on P [] a h on = absurd on
 all_on P (x ∷ xs) a h (inl e) = subst P (sym e) h.0
 all_on P (x ∷ xs) a h (inr on) = all_on P xs a h.1 on

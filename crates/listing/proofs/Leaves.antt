@@ -1,6 +1,6 @@
 -- A pass, refused or made: what it leaves on the line. Assumes nothing.
 use Rattle.std.proofs.Common.{◌≡◌, ℕ, zero, suc, ◌+◌, ◌^◌, ◌<◌, ◌≤◌, Bool, true, false, cond, not, ◌&&◌, ltb, leb, List, [], ◌∷◌, ◌++◌, map, set, is_some, Some, None, Option, sym, refl, ap, ◌∙◌, subst, add-one, arith}
-use Rattle.std.specs.List.{AllByRecursion as All}
+use Rattle.std.specs.List.{AllByRecursion}
 use Rattle.std.proofs.lemmas.Bool.{both_ways, and_parts, cond-true, cond-false, leb-true, lt-leb, le-leb, lt-ltb}
 use Rattle.address.specs.Bits.{bit}
 use Rattle.address.specs.Parts.{right}
@@ -54,7 +54,7 @@ stepped_slot f g b rest ss u e =
     sym (played_first (Slot b) rest (map (staged f) ss))
     ∙ ap (map (played rest)) (all_taken f u b ss ∙ ap (λ (h : ℕ → Stage). map (staged h) ss) e)
 
-module _ (xs : List ℕ) (d : Option ℕ) (last : ℕ) (ss : List Seat) (narrow : All (λ s. s.address < 2 ^ 64) ss) where
+module _ (xs : List ℕ) (d : Option ℕ) (last : ℕ) (ss : List Seat) (narrow : AllByRecursion (λ s. s.address < 2 ^ 64) ss) where
   -- the two reads of a bit
   two_reads : (i sent : ℕ) (rest : List Signal) → i < 64 → (t u : Bool) → map (played (Slot t ∷ Slot u ∷ rest)) (map (staged (walked search_at sent i)) ss) ≡ map (played rest) (map (staged (turned Listen sent i)) ss)
   two_reads i sent rest h t u =
@@ -104,7 +104,7 @@ module _ (xs : List ℕ) (d : Option ℕ) (last : ℕ) (ss : List Seat) (narrow 
       (walk_leaves n (i + 1) (with_bit i v sent) (cond (forks d i low high) (set f i true) f) (omega arith) (sent_small i sent v small) (still_told d last i sent low small h))
 
 -- what a pass leaves that is not refused
-pass_leaves : (ss : List Seat) (xs : List ℕ) (s : State) → All (λ x. x.address < 2 ^ 64) ss → map (played (Reset ∷ slots (levels xs s))) ss ≡ map (leaves (outcome xs s) s.last) ss
+pass_leaves : (ss : List Seat) (xs : List ℕ) (s : State) → AllByRecursion (λ x. x.address < 2 ^ 64) ss → map (played (Reset ∷ slots (levels xs s))) ss ≡ map (leaves (outcome xs s) s.last) ss
 unfolding played
 pass_leaves ss [] s n = refl
 pass_leaves ss (x ∷ xs) s n =
@@ -114,7 +114,7 @@ pass_leaves ss (x ∷ xs) s n =
 
 -- ---- a pass, refused or made
 
-pub narrow_on : (ss : List Seat) → All (λ s. s.address < 2 ^ 64) ss → Narrow (on_line ss)
+pub narrow_on : (ss : List Seat) → AllByRecursion (λ s. s.address < 2 ^ 64) ss → Narrow (on_line ss)
 narrow_on [] h = tt
 narrow_on (s ∷ ss) h = by_mark s.attached (narrow_on ss h.1)
   where
@@ -136,7 +136,7 @@ same_on xs (s ∷ ss) = λ i. cond ((on_played xs s).1 i) ((on_played xs s).0 i 
 by_refusal : (xs : List ℕ) (s : State) (o : Option PassRefusal) → pass_refusal s ≡ o → signals xs s ≡ cond (is_some o) [] (Reset ∷ slots (levels xs s))
 by_refusal xs s o e = ap (λ (r : Option PassRefusal). cond (is_some r) [] (Reset ∷ slots (levels xs s))) e
 
-passed_by_lem : (ss after : List Seat) (s t : State) → All (λ x. x.address < 2 ^ 64) ss → Limited t → Goes (pass (on_line ss)) s t → after ≡ map (played (signals (on_line ss) s)) ss → Passed ss after s t
+passed_by_lem : (ss after : List Seat) (s t : State) → AllByRecursion (λ x. x.address < 2 ^ 64) ss → Limited t → Goes (pass (on_line ss)) s t → after ≡ map (played (signals (on_line ss) s)) ss → Passed ss after s t
 passed_by_lem ss after s t n l goes given =
     record {
       left = λ r. given ∙ ap (λ (xs : List Signal). map (played xs) ss) (by_refusal (on_line ss) s None r) ∙ pass_leaves ss (on_line ss) s n;
@@ -147,12 +147,12 @@ passed_by_lem ss after s t n l goes given =
       lives = strings_follow.signals (signals (on_line ss) s) ss after given;
     }
 
-pub unmade : (ss : List Seat) (s : State) (refusal : PassRefusal) → All (λ x. x.address < 2 ^ 64) ss → Limited s → pass_refusal s ≡ Some refusal → Passed ss ss s s
+pub unmade : (ss : List Seat) (s : State) (refusal : PassRefusal) → AllByRecursion (λ x. x.address < 2 ^ 64) ss → Limited s → pass_refusal s ≡ Some refusal → Passed ss ss s s
 unmade ss s refusal n l e =
     passed_by_lem ss ss s s n l (listings_are_truthful.pass_refused (on_line ss) refusal s s (narrow_on ss n) e refl)
     (sym (ap (λ (xs : List Signal). map (played xs) ss) (by_refusal (on_line ss) s (Some refusal) e) ∙ played_nothing ss))
 
-pub pass_made : (ss after : List Seat) (s t : State) → All (λ x. x.address < 2 ^ 64) ss → Limited t → pass_refusal s ≡ None → t ≡ passed (on_line ss) s → after ≡ map (played (Reset ∷ slots (levels (on_line ss) s))) ss → Passed ss after s t
+pub pass_made : (ss after : List Seat) (s t : State) → AllByRecursion (λ x. x.address < 2 ^ 64) ss → Limited t → pass_refusal s ≡ None → t ≡ passed (on_line ss) s → after ≡ map (played (Reset ∷ slots (levels (on_line ss) s))) ss → Passed ss after s t
 pass_made ss after s t n l r e given =
     passed_by_lem ss after s t n l (listings_are_truthful.passes (on_line ss) s t (narrow_on ss n) r e)
     (given ∙ sym (ap (λ (xs : List Signal). map (played xs) ss) (by_refusal (on_line ss) s None r)))

@@ -1,7 +1,7 @@
 -- The walk of a pass over the seats of a line, bit by bit. Assumes nothing.
 use Rattle.std.proofs.Common.{◌≡◌, ℕ, zero, suc, ◌+◌, ◌-◌, ◌^◌, ◌<◌, ◌≤◌, Bool, true, false, cond, not, ◌&&◌, ◌||◌, ltb, List, [], ◌∷◌, ◌++◌, map, set, is_some, Some, None, Option, sym, refl, ap, ◌∙◌, subst, lt_trans, lt-suc_self, add-one, arith}
 use mathlib.Core.Bool.{beq}
-use Rattle.std.specs.List.{AllByRecursion as All}
+use Rattle.std.specs.List.{AllByRecursion}
 use Rattle.std.proofs.lemmas.Simd.{map-map}
 use Rattle.std.proofs.lemmas.Bool.{both_ways}
 use Rattle.address.specs.Bits.{bit, bits}

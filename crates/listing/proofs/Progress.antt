@@ -1,6 +1,6 @@
 -- Progress: passes over a line that stays complete a listing or reach its limit. Assumes nothing.
 use Rattle.std.proofs.Common.{◌≡◌, ℕ, zero, suc, ◌+◌, ◌-◌, ◌^◌, ◌<◌, ◌≤◌, max, Bool, true, false, cond, not, ◌&&◌, leb, ◌⊎◌, List, [], ◌∷◌, length, get_or, is_some, Some, None, Decides, Option, sym, refl, ap, ◌∙◌, subst, inl, inr, ⊎_elim, arith}
-use Rattle.std.specs.List.{range_with_len, AllByRecursion as All}
+use Rattle.std.specs.List.{range_with_len, AllByRecursion}
 use Rattle.std.proofs.lemmas.Bool.{both_ways, and_parts, and_from, and_left, cond-true, cond-false, not-true, lt-leb}
 use Rattle.address.specs.Orders.{search_order}
 use Rattle.line.specs.Searching.{answered}
@@ -248,7 +248,7 @@ sound_refused n xs s ps narrow h l = by_refusal (is_some (pass_refusal s)) refl
 
 -- ---- lines with the same addresses
 
-all_from_on : (P : ℕ → Type 0) (xs : List ℕ) → ((x : ℕ) → On x xs → P x) → All P xs
+all_from_on : (P : ℕ → Type 0) (xs : List ℕ) → ((x : ℕ) → On x xs → P x) → AllByRecursion P xs
 all_from_on P [] h = tt
 all_from_on P (x ∷ xs) h = (h x (inl refl), all_from_on P xs (λ y on. h y (inr on)))
 

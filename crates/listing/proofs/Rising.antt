@@ -1,6 +1,6 @@
 -- Lists that rise in search order, and lists of passes. Assumes nothing.
 use Rattle.std.proofs.Common.{◌≡◌, ℕ, ◌+◌, Bool, cond, List, [], ◌∷◌, ◌++◌, sym, refl, ap, ◌∙◌, subst, inl, inr, arith}
-use Rattle.std.specs.List.{flat_map, AllByRecursion as All}
+use Rattle.std.specs.List.{flat_map, AllByRecursion}
 use Rattle.std.proofs.ByRecursion.{All-push}
 use Rattle.std.proofs.lemmas.List.{append-nil, append_assoc}
 use Rattle.std.proofs.lemmas.Bool.{eq-eqb, ne_eqb}
@@ -11,14 +11,14 @@ use Rattle.listing.proofs.Answering.{all_on}
 
 -- ---- lists that rise
 
-pub rising_push : (xs : List ℕ) (a : ℕ) → Rising xs → All (λ x. Before x a) xs → Rising (xs ++ a ∷ [])
+pub rising_push : (xs : List ℕ) (a : ℕ) → Rising xs → AllByRecursion (λ x. Before x a) xs → Rising (xs ++ a ∷ [])
 rising_push [] a r h = (tt, tt)
 rising_push (x ∷ xs) a r h = (All-push (Before x) xs a r.0 h.0, rising_push xs a r.1 h.1)
 
 not_itself : (a x : ℕ) → Before x a → a ≡ x → ⊥
 not_itself a x b e = search_order.irreflexive x (subst (Before x) e b)
 
-times_none : (xs : List ℕ) (a : ℕ) → All (Before a) xs → times a xs ≡ 0
+times_none : (xs : List ℕ) (a : ℕ) → AllByRecursion (Before a) xs → times a xs ≡ 0
 times_none [] a h = refl
 times_none (x ∷ xs) a h =
     let other = ne_eqb a x (λ e. not_itself x a h.0 (sym e)) in
@@ -29,7 +29,7 @@ pub times_one : (xs : List ℕ) (a : ℕ) → Rising xs → On a xs → times a 
 times_one [] a r on = absurd on
 times_one (x ∷ xs) a r (inl e) =
     ap (λ (t : Bool). cond t 1 0 + times a xs) (eq-eqb a x e)
-    ∙ omega (arith, times_none xs a (subst (λ (y : ℕ). All (Before y) xs) (sym e) r.0))
+    ∙ omega (arith, times_none xs a (subst (λ (y : ℕ). AllByRecursion (Before y) xs) (sym e) r.0))
 times_one (x ∷ xs) a r (inr on) =
     let other = ne_eqb a x (not_itself a x (all_on (Before x) xs a r.0 on)) in
     ap (λ (t : Bool). cond t 1 0 + times a xs) other ∙ omega (arith, times_one xs a r.1 on)
@@ -45,7 +45,7 @@ on_right (x ∷ xs) ys a on = inr (on_right xs ys a on)
 
 -- ---- lists of passes
 
-pub all_front : {X : Type 0} (P : X → Type 0) (xs : List X) (x : X) → All P (xs ++ x ∷ []) → All P xs × P x
+pub all_front : {X : Type 0} (P : X → Type 0) (xs : List X) (x : X) → AllByRecursion P (xs ++ x ∷ []) → AllByRecursion P xs × P x
 all_front P [] x h = (tt, h.0)
 all_front P (y ∷ ys) x h = let rest = all_front P ys x h.1 in ((h.0, rest.0), rest.1)
 

@@ -1,6 +1,6 @@
 -- The law over runs: what is true of a listing after every list of calls. Assumes nothing.
 use Rattle.std.proofs.Common.{◌≡◌, ℕ, ◌+◌, ◌≤◌, Bool, true, false, cond, not, ltb, leb, ◌⊎◌, List, [], ◌∷◌, ◌++◌, length, replicate, is_some, Some, None, Decides, Option, sym, refl, ap, ◌∙◌, subst, inl, inr, ⊎_elim, arith}
-use Rattle.std.specs.List.{flat_map, AllByRecursion as All}
+use Rattle.std.specs.List.{flat_map, AllByRecursion}
 use Rattle.std.proofs.ByRecursion.{All-push, All-weaker}
 use Rattle.std.proofs.lemmas.List.{append-nil, get_or_past, get_or-replicate, length-append}
 use Rattle.std.proofs.lemmas.Bool.{both_ways, cases_lt, cond-true, leb-false, ltb-false}
@@ -24,17 +24,17 @@ use Rattle.listing.proofs.Moves.{Ends, pass_ends, Behind, Zeros, moves_closed, l
 pub record Sound (s : State) (ps : List Pass) : Type 0 where
   pub long : length s.opens ≡ 64
   pub zeros : Zeros s.opens s.last
-  pub upto : All (λ a. (a ≡ s.last) ⊎ Before a s.last) s.listed
+  pub upto : AllByRecursion (λ a. (a ≡ s.last) ⊎ Before a s.last) s.listed
   pub rising : Rising s.listed
   pub listed : s.listed ≡ flat_map (λ p. lists p.answer) ps
-  pub there : All (λ p. All (λ a. On a p.line) (lists p.answer)) ps
+  pub there : AllByRecursion (λ p. AllByRecursion (λ a. On a p.line) (lists p.answer)) ps
   pub complete_when : Decides s.complete (EndsClosed ps)
   pub complete_closed : s.complete ≡ true → NoneOpen s.opens
   -- without passes no bit is open, and with no bit open there are none, or the listing is complete
   pub unopened : ps ≡ [] → NoneOpen s.opens
   pub fresh : deepest s.opens ≡ None → s.complete ≡ false → ps ≡ []
   -- a right address that was there in all passes is listed, or lies behind an open bit
-  pub covered : (ps ≡ [] → ⊥) → (a : ℕ) → right a ≡ true → All (λ p. On a p.line) ps → On a s.listed ⊎ Behind s.opens s.last a
+  pub covered : (ps ≡ [] → ⊥) → (a : ℕ) → right a ≡ true → AllByRecursion (λ p. On a p.line) ps → On a s.listed ⊎ Behind s.opens s.last a
 
 none_open_yet : NoneOpen (replicate 64 false)
 none_open_yet k = ⊎_elim (λ l. get_or-replicate 64 k false false l) (λ l. get_or_past (replicate 64 false) k false l) (cases_lt k 64)
@@ -67,8 +67,8 @@ module _ (xs : List ℕ) (s : State) (ps : List Pass) (narrow : Narrow xs) (soun
   none_listed : deepest s.opens ≡ None → s.listed ≡ []
   none_listed e = sound.listed ∙ ap (flat_map (λ p. lists p.answer)) (sound.fresh e going)
 
-  earlier : (a : ℕ) → Read (outcome xs s) a → (d : Option ℕ) → deepest s.opens ≡ d → All (λ x. Before x a) s.listed
-  earlier a r None e = subst (All (λ x. Before x a)) (sym (none_listed e)) tt
+  earlier : (a : ℕ) → Read (outcome xs s) a → (d : Option ℕ) → deepest s.opens ≡ d → AllByRecursion (λ x. Before x a) s.listed
+  earlier a r None e = subst (AllByRecursion (λ x. Before x a)) (sym (none_listed e)) tt
   earlier a r (Some k) e =
       let later = read_later xs s narrow sound.long a k r e sound.zeros in
       All-weaker (λ x. (x ≡ s.last) ⊎ Before x s.last) (λ x. Before x a)
@@ -86,15 +86,15 @@ module _ (xs : List ℕ) (s : State) (ps : List Pass) (narrow : Narrow xs) (soun
   kept_list : (P : List ℕ → Type 0) → P s.listed → lists (outcome xs s) ≡ [] → P (s.listed ++ lists (outcome xs s))
   kept_list P p e = subst P (sym (ap (λ (l : List ℕ). s.listed ++ l) e ∙ append-nil s.listed)) p
 
-  upto : This → All (λ x. (x ≡ (passed xs s).last) ⊎ Before x (passed xs s).last) (s.listed ++ lists (outcome xs s))
+  upto : This → AllByRecursion (λ x. (x ≡ (passed xs s).last) ⊎ Before x (passed xs s).last) (s.listed ++ lists (outcome xs s))
   unfolding This
   upto (inl h) =
-      subst (λ (y : ℕ). All (λ x. (x ≡ y) ⊎ Before x y) (s.listed ++ lists (outcome xs s))) (sym h.2)
-      (kept_list (All (λ x. (x ≡ s.last) ⊎ Before x s.last)) sound.upto h.1)
+      subst (λ (y : ℕ). AllByRecursion (λ x. (x ≡ y) ⊎ Before x y) (s.listed ++ lists (outcome xs s))) (sym h.2)
+      (kept_list (AllByRecursion (λ x. (x ≡ s.last) ⊎ Before x s.last)) sound.upto h.1)
   upto (inr h) =
       let before = All-weaker (λ x. Before x h.0) (λ x. (x ≡ h.0) ⊎ Before x h.0) (λ x b. inr b) s.listed (earlier h.0 h.1 (deepest s.opens) refl) in
-      subst (λ (y : ℕ). All (λ x. (x ≡ y) ⊎ Before x y) (s.listed ++ lists (outcome xs s))) (sym h.3)
-      (grown (All (λ x. (x ≡ h.0) ⊎ Before x h.0)) h.0 before (All-push (λ x. (x ≡ h.0) ⊎ Before x h.0) s.listed h.0 before (inl refl)) h.2)
+      subst (λ (y : ℕ). AllByRecursion (λ x. (x ≡ y) ⊎ Before x y) (s.listed ++ lists (outcome xs s))) (sym h.3)
+      (grown (AllByRecursion (λ x. (x ≡ h.0) ⊎ Before x h.0)) h.0 before (All-push (λ x. (x ≡ h.0) ⊎ Before x h.0) s.listed h.0 before (inl refl)) h.2)
 
   rising : This → Rising (s.listed ++ lists (outcome xs s))
   unfolding This
@@ -102,12 +102,12 @@ module _ (xs : List ℕ) (s : State) (ps : List Pass) (narrow : Narrow xs) (soun
   rising (inr h) =
       grown Rising h.0 sound.rising (rising_push s.listed h.0 sound.rising (earlier h.0 h.1 (deepest s.opens) refl)) h.2
 
-  there : This → All (λ a. On a xs) (lists (outcome xs s))
+  there : This → AllByRecursion (λ a. On a xs) (lists (outcome xs s))
   unfolding This
-  there (inl h) = subst (All (λ a. On a xs)) (sym h.1) tt
-  there (inr h) = subst (All (λ a. On a xs)) (sym h.2) (by_right (right h.0))
+  there (inl h) = subst (AllByRecursion (λ a. On a xs)) (sym h.1) tt
+  there (inr h) = subst (AllByRecursion (λ a. On a xs)) (sym h.2) (by_right (right h.0))
     where
-      by_right : (t : Bool) → All (λ a. On a xs) (cond t (h.0 ∷ []) [])
+      by_right : (t : Bool) → AllByRecursion (λ a. On a xs) (cond t (h.0 ∷ []) [])
       by_right true = (((searches xs s narrow sound.long).finds h.0 h.1).on, tt)
       by_right false = tt
 
@@ -132,7 +132,7 @@ module _ (xs : List ℕ) (s : State) (ps : List Pass) (narrow : Narrow xs) (soun
       (λ b. inr (subst (λ (y : ℕ). Behind (passed xs s).opens y x) (sym h.3) (later_behind xs s narrow sound.long h.0 x h.1 on so b)))
       (((searches xs s narrow sound.long).finds h.0 h.1).first x on so)
 
-  was_covered : (d : Option ℕ) → deepest s.opens ≡ d → (x : ℕ) → right x ≡ true → All (λ p. On x p.line) ps → Sought (deepest s.opens) s.last x ⊎ (On x s.listed ⊎ Behind s.opens s.last x)
+  was_covered : (d : Option ℕ) → deepest s.opens ≡ d → (x : ℕ) → right x ≡ true → AllByRecursion (λ p. On x p.line) ps → Sought (deepest s.opens) s.last x ⊎ (On x s.listed ⊎ Behind s.opens s.last x)
   was_covered None e x fine on = inl (all_sought (deepest s.opens) s.last x e)
   was_covered (Some k) e x fine on =
       inr (sound.covered (λ none. both_ways _ (sound.unopened none k) ((deepest_deep s.opens sound.long).at k e).1) x fine on)
@@ -157,7 +157,7 @@ module _ (xs : List ℕ) (s : State) (ps : List Pass) (narrow : Narrow xs) (soun
         upto = upto this;
         rising = rising this;
         listed = ap (λ (l : List ℕ). l ++ lists (outcome xs s)) sound.listed ∙ sym (joined_push (λ p. lists p.answer) ps (pass_of xs s));
-        there = All-push (λ p. All (λ a. On a p.line) (lists p.answer)) ps (pass_of xs s) sound.there (there this);
+        there = All-push (λ p. AllByRecursion (λ a. On a p.line) (lists p.answer)) ps (pass_of xs s) sound.there (there this);
         complete_when = ((λ e. last.1 (now.completes.0 e)), (λ h. now.completes.1 (last.0 h)));
         complete_closed = now.completes.0;
         unopened = λ e. absurd (not_none ps (pass_of xs s) e);
@@ -182,13 +182,13 @@ call_sound (pass xs) s ps narrow h = by_refusal s.complete refl (leb s.limit (le
     by_refusal false e true = h
     by_refusal false e false = pass_sound xs s ps narrow h e
 
-run_sound : (cs : List Call) (s : State) (ps : List Pass) → All NarrowCall cs → Sound s ps → Sound (run cs s) (passes_from cs s ps)
+run_sound : (cs : List Call) (s : State) (ps : List Pass) → AllByRecursion NarrowCall cs → Sound s ps → Sound (run cs s) (passes_from cs s ps)
 unfolding run passes_from
 run_sound [] s ps n h = h
 run_sound (c ∷ cs) s ps n h = run_sound cs (does c s) (joins c s ps) n.1 (call_sound c s ps n.0 h)
 
 -- every listing that calls lead to is sound
-pub after_sound : (calls : List Call) → All NarrowCall calls → Sound (after calls) (passes calls)
+pub after_sound : (calls : List Call) → AllByRecursion NarrowCall calls → Sound (after calls) (passes calls)
 after_sound calls n = run_sound calls (begun 0) [] n (begun_sound 0)
 
 -- what is sound is truthful
@@ -206,7 +206,7 @@ sound_truthful calls s e h =
           (h.covered (λ none. subst EndsClosed none (h.complete_when.0 c)) a fine on));
     }
 
-pub truthful : (calls : List Call) (s : State) → All NarrowCall calls → s ≡ after calls → Truthful calls s
+pub truthful : (calls : List Call) (s : State) → AllByRecursion NarrowCall calls → s ≡ after calls → Truthful calls s
 truthful calls s n e = sound_truthful calls s e (subst (λ (t : State). Sound t (passes calls)) (sym e) (after_sound calls n))
 
 run_append : (cs ds : List Call) (s : State) → run (cs ++ ds) s ≡ run ds (run cs s)

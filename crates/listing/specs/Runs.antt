@@ -1,6 +1,6 @@
 -- Runs of begins and passes, and what is true of a listing after each. Assumes nothing.
 use Rattle.std.specs.Prelude.{◌≡◌, ℕ, ◌+◌, ◌^◌, ◌<◌, ◌≤◌, Bool, true, false, cond, ◌⊎◌, List, [], ◌∷◌, ◌++◌, length, is_some, Some, None, Decides, ◌==◌, slice_index_or}
-use Rattle.std.specs.List.{flat_map, AllByRecursion as All}
+use Rattle.std.specs.List.{flat_map, AllByRecursion}
 use Rattle.address.specs.Parts.{right}
 use Rattle.address.specs.SearchOrder.{Before}
 use Rattle.listing.specs.declared.answer.BeginRefusal.{BeginRefusal}
@@ -68,7 +68,7 @@ times a (x ∷ xs) = cond (a == x) 1 0 + times a xs
 -- each address comes before all behind it
 abbrev pub Rising : List ℕ → Type 0
 Rising [] = Unit {0}
-Rising (x ∷ xs) = All (Before x) xs × Rising xs
+Rising (x ∷ xs) = AllByRecursion (Before x) xs × Rising xs
 
 -- no bit is open
 abbrev pub NoneOpen : List Bool → Type 0
@@ -82,7 +82,7 @@ EndsClosed (p ∷ q ∷ ps) = EndsClosed (q ∷ ps)
 
 -- every address has 64 bits
 abbrev pub Narrow : List ℕ → Type 0
-Narrow xs = All (λ a. a < 2 ^ 64) xs
+Narrow xs = AllByRecursion (λ a. a < 2 ^ 64) xs
 
 -- every address on the line of a pass has 64 bits
 abbrev pub NarrowCall : Call → Type 0
@@ -99,20 +99,20 @@ pub record Truthful (calls : List Call) (s : State) : Type 0 where
   -- they rise strictly in search order
   pub rising : Rising s.listed
   -- each was on the line in the pass that listed it
-  pub there : All (λ p. All (λ a. On a p.line) (lists p.answer)) (passes calls)
+  pub there : AllByRecursion (λ p. AllByRecursion (λ a. On a p.line) (lists p.answer)) (passes calls)
   -- complete just when there are passes and the last left no bit open
   pub complete_when : Decides s.complete (EndsClosed (passes calls))
   -- complete, each right address that was on the line in all its passes is listed exactly once
-  pub whole : s.complete ≡ true → (a : ℕ) → right a ≡ true → All (λ p. On a p.line) (passes calls) → times a s.listed ≡ 1
+  pub whole : s.complete ≡ true → (a : ℕ) → right a ≡ true → AllByRecursion (λ p. On a p.line) (passes calls) → times a s.listed ≡ 1
 
 -- t follows s by a call: whatever run led to s, with this call it is truthful at t
 pub record Follows (c : Call) (s t : State) : Type 0 where
-  pub truthful : (calls : List Call) → All NarrowCall calls → s ≡ after calls → Truthful (calls ++ c ∷ []) t
+  pub truthful : (calls : List Call) → AllByRecursion NarrowCall calls → s ≡ after calls → Truthful (calls ++ c ∷ []) t
 
 -- calls on lines with addresses of 64 bits lead to s
 pub record Reachable (s : State) : Type 0 where
   pub calls : List Call
-  pub narrow : All NarrowCall calls
+  pub narrow : AllByRecursion NarrowCall calls
   pub state : s ≡ after calls
 
 -- ---- limits

@@ -1,6 +1,6 @@
 -- Passes over a line on which nothing moves, and lines with the same addresses. Assumes nothing.
 use Rattle.std.specs.Prelude.{◌≡◌, ℕ, zero, suc, ◌+◌, ◌<◌, ◌≤◌, max, Bool, true, false, cond, List, [], ◌∷◌, length, is_some, None}
-use Rattle.std.specs.List.{AllByRecursion as All}
+use Rattle.std.specs.List.{AllByRecursion}
 use Rattle.listing.specs.Rule.{State, outcome, slots, levels, passed, pass_refusal}
 use Rattle.listing.specs.Runs.{Call, begin, pass, does, after, On, Narrow, NarrowCall}
 use Rattle.listing.specs.Passes.{is_closed}
@@ -39,7 +39,7 @@ Different (x ∷ xs) = (On x xs → ⊥) × Different xs
 -- on a line that stays, with the n addresses xs on it and m bits open, at most max (n + m) 1 passes complete a listing or reach its limit
 abbrev pub PassesProgress : Type 0
 PassesProgress =
-    (calls : List Call) → All NarrowCall calls → (line xs : List ℕ) → Narrow line → Alike line xs → is_some (pass_refusal (again (max (length xs + open_bits (after calls).opens) 1) line (after calls))) ≡ true
+    (calls : List Call) → AllByRecursion NarrowCall calls → (line xs : List ℕ) → Narrow line → Alike line xs → is_some (pass_refusal (again (max (length xs + open_bits (after calls).opens) 1) line (after calls))) ≡ true
 
 -- passes after a begin, over a line that stays, with the n different addresses xs on it
 pub record Straight (line xs : List ℕ) (s : State) : Type 0 where

@@ -2,7 +2,7 @@
 ghost use Rattle.std.specs.Prelude.{◌≡◌, ◌≤◌, [], None, vec_len, vec_capacity, OnSome};
 ghost use Rattle.listing.specs.Meaning.{state_of};
 ghost use Rattle.listing.specs.Rule.{begun, begin_refusal};
-ghost use Rattle.listing.specs.Runs.{begin as beginCall, Truthful, Goes, Reachable, Limited};
+ghost use Rattle.listing.specs.Runs.{begin as begin_call, Truthful, Goes, Reachable, Limited};
 
 use crate::answer::BeginRefusal;
 use crate::listing::Listing;
@@ -43,7 +43,7 @@ impl Listing {
     // Why a begin with this limit is refused, if it is.
     pub(crate) fn begin_refusal(&self, limit: usize) -> Option<BeginRefusal>
         ensures value { result ≡ begin_refusal limit }
-        ensures goes { OnSome result (Goes (beginCall limit) (state_of self.now) (state_of self.now)) }
+        ensures goes { OnSome result (Goes (begin_call limit) (state_of self.now) (state_of self.now)) }
     {
         over_limit(limit)
     }
@@ -52,7 +52,7 @@ impl Listing {
     pub(crate) fn begin_anew(&mut self, limit: usize)
         requires { begin_refusal limit ≡ None }
         ensures begun { state_of self.new ≡ begun limit }
-        ensures goes { Goes (beginCall limit) (state_of self.old) (state_of self.new) }
+        ensures goes { Goes (begin_call limit) (state_of self.old) (state_of self.new) }
     {
         self.clear(limit);
     }

@@ -7,7 +7,7 @@ ghost use Rattle.listing.specs.Calls.{Passed};
 ghost use Rattle.listing.specs.Meaning.{state_of, meant};
 ghost use Rattle.listing.specs.Passes.{Reads, Searches};
 ghost use Rattle.listing.specs.Rule.{begun, outcome, begin_refusal, pass_refusal};
-ghost use Rattle.listing.specs.Runs.{begin as beginCall, Truthful, Goes, Reachable, Limited};
+ghost use Rattle.listing.specs.Runs.{begin as begin_call, Truthful, Goes, Reachable, Limited};
 ghost use Rattle.listing.specs.Still.{PassesSeeAddresses, PassesProgress, StillLinesList};
 
 use beginning::ROOM;
@@ -44,7 +44,7 @@ impl Listing {
     // Begins anew, with room for so many addresses.
     pub fn begin(&mut self, limit: usize) -> Result<(), BeginRefusal>
         ensures cases { MatchResult result (λ _. (begin_refusal limit ≡ None) × (state_of self.new ≡ begun limit)) (λ e. (begin_refusal limit ≡ Some e) × (state_of self.new ≡ state_of self.old)) }
-        ensures goes { Goes (beginCall limit) (state_of self.old) (state_of self.new) }
+        ensures goes { Goes (begin_call limit) (state_of self.old) (state_of self.new) }
     {
         if let Some(refusal) = self.begin_refusal(limit) {
             return Err(refusal);

@@ -1,10 +1,10 @@
 // The open bits.
 ghost use Rattle.std.specs.Prelude.{◌≡◌, ◌<◌, false, length, IfSome, slice_index_or};
-ghost use Rattle.listing.specs.Rule.{deepest as deepestIn, closing};
+ghost use Rattle.listing.specs.Rule.{deepest as deepest_in, closing};
 
 // The deepest open bit.
 pub(crate) fn deepest_of(opens: &[bool; 64]) -> Option<u8>
-    ensures value { result ≡ deepestIn opens.now }
+    ensures value { result ≡ deepest_in opens.now }
     ensures below { IfSome result (λ k. k < 64) }
 {
     let mut deepest = None;

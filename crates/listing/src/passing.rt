@@ -5,7 +5,7 @@ ghost use Rattle.line.specs.Searching.{on_line};
 ghost use Rattle.line.specs.Signals.{played, slots};
 ghost use Rattle.line.specs.declared.signal.Signal.TheVariants.{Reset};
 ghost use Rattle.listing.specs.Meaning.{state_of, meant, walk_of};
-ghost use Rattle.listing.specs.Rule.{found, spoilt, deepest as deepestIn, closing, lists, outcome, outcome_of, passed, passed_by, levels};
+ghost use Rattle.listing.specs.Rule.{found, spoilt, deepest as deepest_in, closing, lists, outcome, outcome_of, passed, passed_by, levels};
 
 use crate::answer::Answer;
 use crate::listing::Listing;
@@ -31,7 +31,7 @@ impl Listing {
     // Takes note of what a walk came to.
     fn note(&mut self, deepest: Option<u8>, walk: Walk) -> Answer
         requires room { vec_len self.old.addresses < self.old.limit }
-        requires deepest { deepest ≡ deepestIn self.old.opens }
+        requires deepest { deepest ≡ deepest_in self.old.opens }
         requires below { IfSome deepest (λ k. k < 64) }
         ensures answer { meant result ≡ outcome_of (walk_of walk) }
         ensures state { state_of self.new ≡ passed_by (walk_of walk) (state_of self.old) }
@@ -58,7 +58,7 @@ impl Listing {
     fn settle(&mut self, opens: [bool; 64], deepest: Option<u8>)
         requires { IfSome deepest (λ k. k < 64) }
         ensures opens { self.new.opens ≡ closing deepest opens }
-        ensures complete { self.new.complete ≡ not (is_some (deepestIn (closing deepest opens))) }
+        ensures complete { self.new.complete ≡ not (is_some (deepest_in (closing deepest opens))) }
         ensures addresses { self.new.addresses ≡ self.old.addresses }
         ensures last { self.new.last ≡ self.old.last }
         ensures limit { self.new.limit ≡ self.old.limit }

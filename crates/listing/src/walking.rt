@@ -9,7 +9,7 @@ ghost use Rattle.line.specs.Stages.{with_bit};
 ghost use Rattle.line.specs.declared.signal.Signal.TheVariants.{Reset};
 ghost use Rattle.line.specs.declared.stage.Stage.TheVariants.{Search};
 ghost use Rattle.line.specs.declared.stage.Turn.TheVariants.{Bit};
-ghost use Rattle.listing.specs.Rule.{walk_over, levels_over, wanted as wantedBy, stops, forks, told, walk as walkFrom, walk_levels};
+ghost use Rattle.listing.specs.Rule.{walk_over, levels_over, wanted as wanted_by, stops, forks, told, walk as walk_from, walk_levels};
 ghost use Rattle.listing.specs.Meaning.{walk_of};
 
 use crate::walk::Walk;
@@ -38,7 +38,7 @@ pub(crate) fn walk<L: Line>(
 
 // The 64 bits of a search that has begun.
 fn walk_bits<L: Line>(line: &mut L, deepest: Option<u8>, last: Address, opens: [bool; 64]) -> Walk
-    ensures walk { (ss : List Seat) → L.Line.seats line.old ≡ map (staged (λ _. Search 0 Bit)) ss → walk_of result ≡ walkFrom (on_line ss) deepest (number_of last) 64 0 0 opens }
+    ensures walk { (ss : List Seat) → L.Line.seats line.old ≡ map (staged (λ _. Search 0 Bit)) ss → walk_of result ≡ walk_from (on_line ss) deepest (number_of last) 64 0 0 opens }
     ensures given { (ss : List Seat) → L.Line.seats line.old ≡ map (staged (λ _. Search 0 Bit)) ss → L.Line.seats line.new ≡ map (played (slots (walk_levels (on_line ss) deepest (number_of last) 64 0 0))) (L.Line.seats line.old) }
 {
     let mut sent = 0;
@@ -61,7 +61,7 @@ fn walk_bits<L: Line>(line: &mut L, deepest: Option<u8>, last: Address, opens: [
 // The value to send at a bit: below the deepest open bit the last address's, at it 1, each only if it is
 // answered; else 0 if that is answered, and 1 if not.
 fn wanted(deepest: Option<u8>, last: Address, bit: u8, answered: Answered) -> Option<bool>
-    ensures { result ≡ (if stops deepest (number_of last) bit answered.zero answered.one then None else Some (wantedBy deepest (number_of last) bit answered.zero)) }
+    ensures { result ≡ (if stops deepest (number_of last) bit answered.zero answered.one then None else Some (wanted_by deepest (number_of last) bit answered.zero)) }
 {
     match deepest {
         Some(d) if bit < d => if_answered(last.bit(bit as u32), answered),

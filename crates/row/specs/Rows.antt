@@ -1,7 +1,7 @@
 -- A row of lines, one after the other. Assumes nothing.
 use Rattle.std.specs.Prelude.{◌≡◌, ℕ, ◌+◌, ◌^◌, ◌<◌, ◌≤◌, Bool, true, false, ◌&&◌, ◌||◌, List, [], ◌∷◌, ◌++◌, map, length, get_or, take, drop, slice_index_or, slice_set, refl}
 use Rattle.std.proofs.Common.{ap, sym, subst, ◌∙◌, le_refl}
-use Rattle.std.specs.List.{flat_map, AllByRecursion as All}
+use Rattle.std.specs.List.{flat_map, AllByRecursion}
 use Rattle.std.proofs.ByRecursion.{All-append}
 use Rattle.std.proofs.lemmas.List.{take_more, take_more_set, take_all, take-append-le, drop_more, drop-set, drop_all, flat_map_more, map-append, length-set}
 use Rattle.std.proofs.lemmas.Bool.{both_ways}
@@ -15,7 +15,7 @@ tails : {A : Type 0} {x y : A} {xs ys : List A} → x ∷ xs ≡ y ∷ ys → xs
 tails e = cc
 
 module _ {L : Type 0} (f : L → List Seat) where
-  pub narrow_row : (xs : List L) → ((x : L) → All (λ s. s.address < 2 ^ 64) (f x)) → All (λ s. s.address < 2 ^ 64) (flat_map f xs)
+  pub narrow_row : (xs : List L) → ((x : L) → AllByRecursion (λ s. s.address < 2 ^ 64) (f x)) → AllByRecursion (λ s. s.address < 2 ^ 64) (flat_map f xs)
   narrow_row [] h = tt
   narrow_row (x ∷ xs) h = All-append (λ s. s.address < 2 ^ 64) (f x) (flat_map f xs) (h x) (narrow_row xs h)
 

@@ -14,9 +14,9 @@ loop-line-preserved g c =
     let p = c.loop-line.present in
     let within : i < length ys = omega (arith, c.loop-line.auto.lines, c.loop-line-test.true) in
     let item = c.line-item.is in (
-      change_more f reset_seat xs ys i x c.reset-one-present.new.line within c.loop-line.auto.lines item
-          (c.reset-one-present.ensures.after ∙ ap (λ z. map reset_seat (f z)) (sym item)) c.loop-line.invariant.0,
-      ap (λ (b : Bool). (p || b) || occupied (flat_map f (drop (i + 1) xs))) (c.reset-one-present.ensures.present ∙ ap (λ z. occupied (f z)) (sym item))
+      change_more f reset_seat xs ys i x c.reset_one-present.new.line within c.loop-line.auto.lines item
+          (c.reset_one-present.ensures.after ∙ ap (λ z. map reset_seat (f z)) (sym item)) c.loop-line.invariant.0,
+      ap (λ (b : Bool). (p || b) || occupied (flat_map f (drop (i + 1) xs))) (c.reset_one-present.ensures.present ∙ ap (λ z. occupied (f z)) (sym item))
           ∙ or_more p (occupied (f x)) (occupied (flat_map f (drop (i + 1) xs))) _
           (ap (λ (b : Bool). p || b) (sym (occupied_from f xs i x c.loop-line-test.true (same_element f reset_seat xs ys i x within c.loop-line.auto.lines item c.loop-line.invariant.0))) ∙ c.loop-line.invariant.1),
     )

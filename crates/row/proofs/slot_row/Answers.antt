@@ -7,7 +7,7 @@ use Rattle.row.proofs.slot_row.Goals as goal
 pub returns : goal.returns
 returns g c =
     let f = g.L.Line.seats in
-    let lines = c.slot-all.new.lines in
-    ap (flat_map f) (given_back c.args.lines.now.len lines (drop (length lines) c.args.lines.now.items) (c.slot-all.auto.lines ∙ c.as-mut-slice.ensures.len))
-    ∙ c.slot-all.ensures
-    ∙ ap (λ xs. map (takes_seat c.args.level) (flat_map f xs)) c.as-mut-slice.ensures.value
+    let lines = c.slot_all.new.lines in
+    ap (flat_map f) (given_back c.args.lines.now.len lines (drop (length lines) c.args.lines.now.items) (c.slot_all.auto.lines ∙ c.as_mut_slice.ensures.len))
+    ∙ c.slot_all.ensures
+    ∙ ap (λ xs. map (takes_seat c.args.level) (flat_map f xs)) c.as_mut_slice.ensures.value

@@ -17,9 +17,9 @@ returns-in-Empty g c =
 pub returns : goal.returns
 returns g c =
     let ss = g.L.Line.seats c.args.line.now in
-    let begun : g.L.Line.seats c.send-byte.new.line ≡ map (staged (λ _. Search 0 Bit)) ss =
-    c.send-byte.ensures.after ∙ ap (sent (bits 0xf0)) c.reset.ensures.after ∙ search_begins ss in
+    let begun : g.L.Line.seats c.send_byte.new.line ≡ map (staged (λ _. Search 0 Bit)) ss =
+    c.send_byte.ensures.after ∙ ap (sent (bits 0xf0)) c.reset.ensures.after ∙ search_begins ss in
     let both =
-    searched_given ss c.args.deepest (number c.args.last) c.args.opens (walk_of c.walk-bits.result) (g.L.Line.seats c.send-byte.new.line) (g.L.Line.seats c.walk-bits.new.line) (λ e. c.in-default.not-Empty (c.reset.ensures.present ∙ sym e)) begun
-    (c.walk-bits.ensures.walk ss begun) (c.walk-bits.ensures.given ss begun) in
+    searched_given ss c.args.deepest (number c.args.last) c.args.opens (walk_of c.walk_bits.result) (g.L.Line.seats c.send_byte.new.line) (g.L.Line.seats c.walk_bits.new.line) (λ e. c.in-default.not-Empty (c.reset.ensures.present ∙ sym e)) begun
+    (c.walk_bits.ensures.walk ss begun) (c.walk_bits.ensures.given ss begun) in
     record { walk = both.0; given = both.1 }

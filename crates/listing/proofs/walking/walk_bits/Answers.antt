@@ -21,10 +21,10 @@ returns-in-default g c =
 
 pub loop-bit-preserved : goal.loop-bit-preserved
 loop-bit-preserved g c = (
-  c.with-bit-sent.ensures.bound,
+  c.with_bit-sent.ensures.bound,
   λ ss e.
       bit_goes_on ss c.args.deepest (number c.args.last) c.args.opens (g.L.Line.seats c.args.line.now) c.loop-bit.bit c.loop-bit.sent c.loop-bit.opens (g.L.Line.seats c.loop-bit.line) (c.loop-bit.invariant.1 ss e) c.loop-bit-test.true
-      c.ask-answered.result.zero c.ask-answered.result.one c.in-Some.value c.with-bit-sent.result c.note-fork.new.opens (g.L.Line.seats c.ask-answered.new.line) (g.L.Line.seats c.send-bit.new.line) c.loop-bit.invariant.0 c.ask-answered.ensures.zero c.ask-answered.ensures.one c.ask-answered.ensures.after c.in-Some.ensures c.note-fork.ensures c.send-bit.ensures.after c.with-bit-sent.ensures.value,
+      c.ask-answered.result.zero c.ask-answered.result.one c.in-Some.value c.with_bit-sent.result c.note_fork.new.opens (g.L.Line.seats c.ask-answered.new.line) (g.L.Line.seats c.send_bit.new.line) c.loop-bit.invariant.0 c.ask-answered.ensures.zero c.ask-answered.ensures.one c.ask-answered.ensures.after c.in-Some.ensures c.note_fork.ensures c.send_bit.ensures.after c.with_bit-sent.ensures.value,
 )
 
 pub returns : goal.returns
@@ -33,6 +33,6 @@ returns g c =
     let ended = λ (ss : List Seat) (e : g.L.Line.seats c.args.line.now ≡ map (staged (λ _. Search 0 Bit)) ss).
     ends_here ss c.args.deepest (number c.args.last) c.args.opens (g.L.Line.seats c.args.line.now) c.loop-bit.bit c.loop-bit.sent c.loop-bit.opens (g.L.Line.seats c.loop-bit.line) (c.loop-bit.invariant.1 ss e) last in
     record {
-      walk = λ ss e. ap (λ (n : ℕ). reached n c.loop-bit.opens) c.address-of.ensures ∙ (ended ss e).0;
+      walk = λ ss e. ap (λ (n : ℕ). reached n c.loop-bit.opens) c.address_of.ensures ∙ (ended ss e).0;
       given = λ ss e. (ended ss e).1;
     }

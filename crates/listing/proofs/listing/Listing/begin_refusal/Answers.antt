@@ -13,6 +13,6 @@ stays limit s (Some refusal) e = listings_are_truthful.begin_refused limit refus
 pub returns : goal.returns
 returns c =
     record {
-      value = c.over-limit.ensures;
-      goes = stays c.args.limit (state_of c.args.self.now) c.over-limit.result c.over-limit.ensures;
+      value = c.over_limit.ensures;
+      goes = stays c.args.limit (state_of c.args.self.now) c.over_limit.result c.over_limit.ensures;
     }

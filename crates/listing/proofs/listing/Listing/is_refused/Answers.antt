@@ -18,7 +18,7 @@ pub returns-then-listed-self : goal.returns-then-listed-self
 returns-then-listed-self c =
     let self = c.args.self.now in
     let items = vec_items self.addresses in
-    let size = ap length c.as-slice-listed.ensures.value in
+    let size = ap length c.as_slice-listed.ensures.value in
     let full : self.limit ≤ length items = omega (arith, size, c.if-listed-self.true) in
     record { value = by_limit self.complete self.limit items true c.if-self.false (le-leb self.limit (length items) full); room = tt }
 
@@ -26,6 +26,6 @@ pub returns-else-listed-self : goal.returns-else-listed-self
 returns-else-listed-self c =
     let self = c.args.self.now in
     let items = vec_items self.addresses in
-    let size = ap length c.as-slice-listed.ensures.value in
+    let size = ap length c.as_slice-listed.ensures.value in
     let few : length items < self.limit = omega (arith, size, c.if-listed-self.false) in
-    record { value = by_limit self.complete self.limit items false c.if-self.false (lt-leb self.limit (length items) few); room = omega (arith, c.as-slice-listed.ensures.len, c.if-listed-self.false) }
+    record { value = by_limit self.complete self.limit items false c.if-self.false (lt-leb self.limit (length items) few); room = omega (arith, c.as_slice-listed.ensures.len, c.if-listed-self.false) }

@@ -11,7 +11,7 @@ pub returns : goal.returns
 returns g c =
     let line = c.args.line.now in
     record {
-      searches = passes_search (on_line (g.L.Line.seats line)) (state_of c.args.self.now) (narrow_on (g.L.Line.seats line) (g.met.L.Line.narrow line)) c.all-flags.ensures;
+      searches = passes_search (on_line (g.L.Line.seats line)) (state_of c.args.self.now) (narrow_on (g.L.Line.seats line) (g.met.L.Line.narrow line)) c.all_flags.ensures;
       reads = reads;
       alike = passes_see_addresses;
       progress = passes_progress;

@@ -8,6 +8,6 @@ returns g c =
     record {
       answer = c.search-answer.ensures.answer;
       passed =
-          pass_made (g.L.Line.seats line) (g.L.Line.seats c.search-answer.new.line) (state_of c.args.self.now) (state_of c.search-answer.new.self) (g.met.L.Line.narrow line) c.keeps-room.ensures c.requires.refusal
+          pass_made (g.L.Line.seats line) (g.L.Line.seats c.search-answer.new.line) (state_of c.args.self.now) (state_of c.search-answer.new.self) (g.met.L.Line.narrow line) c.keeps_room.ensures c.requires.refusal
           c.search-answer.ensures.state c.search-answer.ensures.given;
     }

@@ -1,5 +1,5 @@
 use Rattle.std.proofs.Common.{◌≡◌, ℕ, ◌^◌, ◌<◌, cond, List, [], ◌∷◌, map, is_some, IfSome, Some, None, Option, sym, refl, ap, ◌∙◌}
-use Rattle.std.specs.List.{AllByRecursion as All}
+use Rattle.std.specs.List.{AllByRecursion}
 use Rattle.line.specs.Seats.{Seat}
 use Rattle.listing.specs.declared.answer.PassRefusal.{PassRefusal}
 use Rattle.listing.specs.Calls.{Passed}
@@ -9,7 +9,7 @@ use Rattle.listing.specs.Runs.{Limited}
 use Rattle.listing.proofs.Leaves.{unmade}
 use Rattle.listing.proofs.listing.Listing.pass_refusal.Goals as goal
 
-stays : (ss : List Seat) (s : State) (r : Option PassRefusal) → All (λ x. x.address < 2 ^ 64) ss → Limited s → r ≡ pass_refusal s → IfSome r (λ _. Passed ss ss s s)
+stays : (ss : List Seat) (s : State) (r : Option PassRefusal) → AllByRecursion (λ x. x.address < 2 ^ 64) ss → Limited s → r ≡ pass_refusal s → IfSome r (λ _. Passed ss ss s s)
 stays ss s None n l e = tt
 stays ss s (Some refusal) n l e = unmade ss s refusal n l (sym e)
 
@@ -17,7 +17,7 @@ pub returns : goal.returns
 returns g c =
     let line = c.args.line.now in
     record {
-      value = c.is-refused.ensures.value;
-      room = c.is-refused.ensures.room;
-      passed = stays (g.L.Line.seats line) (state_of c.args.self.now) c.is-refused.result (g.met.L.Line.narrow line) c.keeps-room.ensures c.is-refused.ensures.value;
+      value = c.is_refused.ensures.value;
+      room = c.is_refused.ensures.room;
+      passed = stays (g.L.Line.seats line) (state_of c.args.self.now) c.is_refused.result (g.met.L.Line.narrow line) c.keeps_room.ensures c.is_refused.ensures.value;
     }
