@@ -1,17 +1,15 @@
 -- Seats that a reset has reached, and then slots that did not reach their stores. Assumes nothing.
-use Rattle.std.proofs.Common.{◌≡◌, ℕ, Bool, true, false, cond, ◌&&◌, List, [], ◌∷◌, ◌++◌, map, Option, sym, refl, ap, ◌∙◌}
+use Rattle.std.proofs.Common.{◌≡◌, ℕ, Bool, true, false, ◌&&◌, List, [], ◌∷◌, map, Option, refl, ap, ◌∙◌}
 use Rattle.std.specs.Option.{option_map}
 use Rattle.std.proofs.lemmas.Bool.{cond-false, and_from}
 use Rattle.ds2760.specs.Commands.{slotted, after_reset}
 use Rattle.ds2760.specs.States.{State}
-use Rattle.address.specs.Bits.{bits}
-use Rattle.line.specs.declared.signal.Signal.TheVariants.{Reset, Slot}
 use Rattle.line.specs.declared.stage.Stage.{Stage}
 use Rattle.line.specs.declared.stage.Stage.TheVariants.{Command}
 use Rattle.line.specs.Matching.{staged}
 use Rattle.line.specs.Seats.{Seat, is_chosen, drives_seat, drives_line, takes_seat, reset_seat}
 use Rattle.line.specs.Sending.{sent_bit, sent, Quiet}
-use Rattle.line.specs.Signals.{signalled, played, slots}
+use Rattle.line.specs.Signals.{played, slots}
 use Rattle.line.specs.Stages.{drives_stage, takes}
 
 -- no slot reaches a store

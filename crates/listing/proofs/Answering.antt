@@ -1,5 +1,5 @@
 -- What is answered and what is sent, by bits. Assumes nothing.
-use Rattle.std.proofs.Common.{◌≡◌, ℕ, zero, suc, ◌+◌, ◌-◌, ◌/◌, ◌%◌, ◌^◌, ◌<◌, ◌≤◌, Bool, true, false, ◌&&◌, eqb, ◌⊎◌, List, [], ◌∷◌, sym, refl, ap, ◌∙◌, subst, inl, inr, ⊎_elim, lt_trans, lt-suc_self, add-one, arith, pow_pos}
+use Rattle.std.proofs.Common.{◌≡◌, ℕ, zero, suc, ◌+◌, ◌-◌, ◌/◌, ◌%◌, ◌^◌, ◌<◌, ◌≤◌, Bool, true, false, ◌&&◌, eqb, List, [], ◌∷◌, sym, refl, ap, ◌∙◌, subst, inl, inr, ⊎_elim, lt_trans, lt-suc_self, add-one, arith, pow_pos}
 use mathlib.Core.Bool.{beq}
 use native.Mathlib.Nat.{add-mod_right, add-div_right, div-eq_of_lt, two-pow-succ}
 use lib.Pow.{field, mod-mod-pow}

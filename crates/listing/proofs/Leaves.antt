@@ -1,7 +1,7 @@
 -- A pass, refused or made: what it leaves on the line. Assumes nothing.
-use Rattle.std.proofs.Common.{◌≡◌, ℕ, zero, suc, ◌+◌, ◌^◌, ◌<◌, ◌≤◌, Bool, true, false, cond, not, ◌&&◌, ltb, leb, List, [], ◌∷◌, ◌++◌, map, set, is_some, Some, None, Option, sym, refl, ap, ◌∙◌, subst, add-one, arith}
+use Rattle.std.proofs.Common.{◌≡◌, ℕ, zero, suc, ◌+◌, ◌^◌, ◌<◌, ◌≤◌, Bool, true, false, cond, not, ltb, leb, List, [], ◌∷◌, map, set, is_some, Some, None, Option, sym, refl, ap, ◌∙◌, subst, add-one, arith}
 use Rattle.std.specs.List.{AllByRecursion}
-use Rattle.std.proofs.lemmas.Bool.{both_ways, and_parts, cond-true, cond-false, leb-true, lt-leb, le-leb, lt-ltb}
+use Rattle.std.proofs.lemmas.Bool.{both_ways, and_parts, cond-true, leb-true, le-leb, lt-ltb}
 use Rattle.address.specs.Bits.{bit}
 use Rattle.address.specs.Parts.{right}
 use Rattle.address.specs.SearchOrder.{Agree}
@@ -13,7 +13,7 @@ use Rattle.line.specs.declared.stage.Stage.TheVariants.{Deaf, Search}
 use Rattle.line.specs.declared.stage.Turn.TheVariants.{Bit, Opposite, Listen}
 use Rattle.line.specs.Matching.{staged, chosen_by}
 use Rattle.line.specs.Searching.{on_line, agree, answered}
-use Rattle.line.specs.Seats.{Seat, is_chosen, takes_seat, reset_seat}
+use Rattle.line.specs.Seats.{Seat, is_chosen}
 use Rattle.line.specs.Signals.{signalled, played, slots}
 use Rattle.line.specs.Stages.{with_bit}
 use Rattle.line.proofs.Staged.{Unchosen, stepped, all_taken}
@@ -21,7 +21,7 @@ use Rattle.line.proofs.Strings.{strings_follow}
 use Rattle.line.proofs.Walks.{walked, search_at, turned, at_bit, bit_read, opposite_read, turn_unchosen, listened, walk_ends}
 use Rattle.listing.specs.declared.answer.PassRefusal.{PassRefusal}
 use Rattle.listing.specs.Calls.{signals, leaves, Passed}
-use Rattle.listing.specs.Rule.{State, Walk, stopped, reached, Outcome, found, spoilt, closed_at, told, told_value, wanted, stops, forks, walk, walk_levels, walk_over, outcome_of, outcome, levels, levels_over, deepest, passed, pass_refusal}
+use Rattle.listing.specs.Rule.{State, Walk, stopped, found, spoilt, told, told_value, wanted, stops, forks, walk, walk_levels, outcome_of, outcome, levels, deepest, passed, pass_refusal}
 use Rattle.listing.specs.Runs.{pass, Goes, Limited, Narrow}
 use Rattle.listing.proofs.Answering.{sent_small, sent_below, sent_here}
 use Rattle.listing.proofs.Lines.{agree_by, gone_on_lem, played_first, played_nothing, begun_given}

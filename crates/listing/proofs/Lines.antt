@@ -1,7 +1,6 @@
 -- The walk of a pass over the seats of a line, bit by bit. Assumes nothing.
-use Rattle.std.proofs.Common.{◌≡◌, ℕ, zero, suc, ◌+◌, ◌-◌, ◌^◌, ◌<◌, ◌≤◌, Bool, true, false, cond, not, ◌&&◌, ◌||◌, ltb, List, [], ◌∷◌, ◌++◌, map, set, is_some, Some, None, Option, sym, refl, ap, ◌∙◌, subst, lt_trans, lt-suc_self, add-one, arith}
+use Rattle.std.proofs.Common.{◌≡◌, ℕ, zero, suc, ◌+◌, ◌-◌, ◌^◌, ◌<◌, Bool, true, false, cond, not, ◌&&◌, ◌||◌, ltb, List, [], ◌∷◌, ◌++◌, map, set, Some, None, Option, sym, refl, ap, ◌∙◌, subst, lt_trans, lt-suc_self, add-one, arith}
 use mathlib.Core.Bool.{beq}
-use Rattle.std.specs.List.{AllByRecursion}
 use Rattle.std.proofs.lemmas.Simd.{map-map}
 use Rattle.std.proofs.lemmas.Bool.{both_ways}
 use Rattle.address.specs.Bits.{bit, bits}
@@ -11,7 +10,7 @@ use Rattle.line.specs.declared.presence.Presence.TheVariants.{Empty}
 use Rattle.line.specs.declared.signal.Signal.TheVariants.{Reset, Slot}
 use Rattle.line.specs.declared.stage.Stage.{Stage}
 use Rattle.line.specs.declared.stage.Stage.TheVariants.{Deaf, Search, Chosen}
-use Rattle.line.specs.declared.stage.Turn.TheVariants.{Bit, Opposite, Listen}
+use Rattle.line.specs.declared.stage.Turn.TheVariants.{Bit, Listen}
 use Rattle.line.specs.Matching.{staged}
 use Rattle.line.specs.Searching.{on_line, agree, answered}
 use Rattle.line.specs.Seats.{Seat, drives_line, takes_seat, reset_seat, occupied, presence}
@@ -21,13 +20,8 @@ use Rattle.line.specs.Stages.{with_bit}
 use Rattle.line.proofs.Joins.{from_empty}
 use Rattle.line.proofs.Staged.{line_silent, reset_staged}
 use Rattle.line.proofs.Walks.{walked, search_at, turned, at_bit, first_read, second_read, gone_on, value_sent, asked_line, turn_unchosen, listen_silent, search_sent, command_silent, commanded}
-use Rattle.listing.specs.declared.answer.PassRefusal.{PassRefusal}
-use Rattle.listing.specs.Calls.{signals, Passed}
-use Rattle.listing.specs.Runs.{pass, Goes, Limited, Narrow}
-use Rattle.listing.specs.Rule.{State, levels, passed, pass_refusal, Walk, silent, stopped, reached, wanted, stops, forks, walk, walk_over, walk_levels, levels_over}
+use Rattle.listing.specs.Rule.{levels, Walk, silent, stopped, reached, wanted, stops, forks, walk, walk_over, walk_levels, levels_over}
 use Rattle.listing.proofs.Answering.{sent_below, sent_here}
-use Rattle.line.proofs.Strings.{strings_follow}
-use Rattle.listing.proofs.Runs.{listings_are_truthful}
 use Rattle.listing.proofs.Steps.{walk_end, walk_stops, walk_on, levels_end, levels_stop, levels_on}
 
 -- ---- what a bit reads

@@ -1,5 +1,5 @@
 -- The law over runs: what is true of a listing after every list of calls. Assumes nothing.
-use Rattle.std.proofs.Common.{◌≡◌, ℕ, ◌+◌, ◌≤◌, Bool, true, false, cond, not, ltb, leb, ◌⊎◌, List, [], ◌∷◌, ◌++◌, length, replicate, is_some, Some, None, Decides, Option, sym, refl, ap, ◌∙◌, subst, inl, inr, ⊎_elim, arith}
+use Rattle.std.proofs.Common.{◌≡◌, ℕ, ◌≤◌, Bool, true, false, cond, not, ltb, leb, ◌⊎◌, List, [], ◌∷◌, ◌++◌, length, replicate, is_some, Some, None, Decides, Option, sym, refl, ap, ◌∙◌, subst, inl, inr, ⊎_elim, arith}
 use Rattle.std.specs.List.{flat_map, AllByRecursion}
 use Rattle.std.proofs.ByRecursion.{All-push, All-weaker}
 use Rattle.std.proofs.lemmas.List.{append-nil, get_or_past, get_or-replicate, length-append}
@@ -12,7 +12,7 @@ use Rattle.listing.specs.declared.answer.BeginRefusal.TheVariants.{LimitTooHigh}
 use Rattle.listing.specs.declared.answer.PassRefusal.{PassRefusal}
 use Rattle.listing.specs.declared.answer.PassRefusal.TheVariants.{Complete, LimitReached}
 use Rattle.listing.specs.Rule.{State, Outcome, found, spoilt, closed_at, closed_empty, begun, deepest, outcome, lists, passed, begin_refusal, pass_refusal}
-use Rattle.listing.specs.Runs.{Call, begin, pass, does, run, after, Pass, pass_of, joins, passes_from, passes, On, Rising, NoneOpen, EndsClosed, Narrow, NarrowCall, Truthful, ListingsAreTruthful, Limited, Goes, Reachable}
+use Rattle.listing.specs.Runs.{Call, begin, pass, does, run, after, Pass, pass_of, joins, passes_from, passes, On, Rising, NoneOpen, EndsClosed, Narrow, NarrowCall, Truthful, ListingsAreTruthful, Limited, Goes}
 use Rattle.listing.specs.Passes.{Sought, Read}
 use Rattle.listing.proofs.Flags.{deepest_deep, none_some}
 use Rattle.listing.proofs.Passes.{searches, passed_long, all_sought}

@@ -4,7 +4,7 @@
 ghost use Rattle.std.specs.Prelude.{◌≡◌, map};
 ghost use Rattle.std.specs.List.{flat_map};
 ghost use Rattle.line.specs.Seats.{takes_seat, reset_seat, drives_line, occupied, presence};
-ghost use Rattle.row.specs.Rows.{narrow_row};
+ghost use Rattle.row.specs.RowLineLemmas.{narrow_row};
 
 use line::{Line, Presence};
 

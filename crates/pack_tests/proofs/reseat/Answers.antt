@@ -22,7 +22,7 @@ reseated before false after p q r u rest m on f g h =
 
 pub returns : goal.returns
 returns g c =
-    let pulled = c.in-ok-detach.ensures in
-    let seated = c.in-ok-attach.ensures in
+    let pulled = c.in_ok-detach.ensures in
+    let seated = c.in_ok-attach.ensures in
     reseated c.args.rack.now.first.attached c.detach.new.self.attached c.attach.new.self.attached (seat_of c.args.rack.now.first.line) (seat_of c.detach.new.self.line) (seat_of c.tick.new.self) (seat_of c.attach.new.self.line)
-    (g.L.Line.seats c.args.rack.now.second) pulled.cases.1 refl pulled.lives c.tick.ensures.lawful seated.lives
+    (g.L.Line.seats c.args.rack.now.second) pulled.cases.1 refl pulled.lives c.tick.ensures.history seated.lives

@@ -1,7 +1,6 @@
-use Rattle.std.proofs.Common.{◌≡◌, List, [], drop, sym, ap, ◌∙◌}
-use Rattle.std.specs.List.{flat_map}
-use Rattle.line.specs.Seats.{Seat, drives_line}
-use Rattle.row.specs.Rows.{drives_from, none_left, quiet_more, zero_driven}
+use Rattle.std.proofs.Common.{sym, ap, ◌∙◌}
+use Rattle.line.specs.Seats.{drives_line}
+use Rattle.row.proofs.Rows.{drives_from, none_left, quiet_more, zero_driven}
 use Rattle.row.proofs.drive_all.Goals as goal
 
 pub returns-then-not-drive : goal.returns-then-not-drive

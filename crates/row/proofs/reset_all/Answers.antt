@@ -1,7 +1,7 @@
-use Rattle.std.proofs.Common.{◌≡◌, ℕ, ◌+◌, ◌<◌, ◌≤◌, Bool, ◌||◌, List, [], map, length, get_or, drop, sym, ap, ◌∙◌, subst, arith}
+use Rattle.std.proofs.Common.{◌+◌, ◌<◌, ◌≤◌, Bool, ◌||◌, map, length, drop, sym, ap, ◌∙◌, arith}
 use Rattle.std.specs.List.{flat_map}
 use Rattle.line.specs.Seats.{reset_seat, occupied}
-use Rattle.row.specs.Rows.{change_more, change_all, same_element, occupied_from, none_left, or_more, or_none}
+use Rattle.row.proofs.Rows.{change_more, change_all, same_element, occupied_from, none_left, or_more, or_none}
 use Rattle.row.proofs.reset_all.Goals as goal
 
 pub loop-line-preserved : goal.loop-line-preserved

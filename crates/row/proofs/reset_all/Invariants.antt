@@ -1,7 +1,7 @@
 use Rattle.std.proofs.Common.{◌≡◌, ◌||◌, drop}
 use Rattle.std.specs.List.{flat_map}
 use Rattle.line.specs.Seats.{reset_seat, occupied}
-use Rattle.row.specs.Rows.{Changed}
+use Rattle.row.proofs.Rows.{Changed}
 use Rattle.row.proofs.reset_all.Given as goal
 
 -- the lines so far have had the reset, and the answer says whether one was occupied

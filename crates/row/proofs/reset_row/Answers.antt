@@ -1,7 +1,7 @@
-use Rattle.std.proofs.Common.{◌≡◌, List, map, length, drop, ap, ◌∙◌}
+use Rattle.std.proofs.Common.{map, length, drop, ap, ◌∙◌}
 use Rattle.std.specs.List.{flat_map}
 use Rattle.line.specs.Seats.{reset_seat, occupied}
-use Rattle.row.specs.Rows.{given_back}
+use Rattle.row.proofs.Rows.{given_back}
 use Rattle.row.proofs.reset_row.Goals as goal
 
 pub returns : goal.returns

@@ -1,6 +1,6 @@
-use Rattle.std.proofs.Common.{◌≡◌, ℕ, ◌<◌, ◌≤◌, map, length, sym, ap, ◌∙◌, subst, arith}
+use Rattle.std.proofs.Common.{◌<◌, ◌≤◌, map, length, sym, ap, ◌∙◌, arith}
 use Rattle.line.specs.Seats.{takes_seat}
-use Rattle.row.specs.Rows.{change_more, change_all}
+use Rattle.row.proofs.Rows.{change_more, change_all}
 use Rattle.row.proofs.slot_all.Goals as goal
 
 pub loop-line-preserved : goal.loop-line-preserved

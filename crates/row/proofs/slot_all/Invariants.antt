@@ -1,5 +1,5 @@
 use Rattle.line.specs.Seats.{takes_seat}
-use Rattle.row.specs.Rows.{Changed}
+use Rattle.row.proofs.Rows.{Changed}
 use Rattle.row.proofs.slot_all.Given as goal
 
 -- the lines so far have had the slot

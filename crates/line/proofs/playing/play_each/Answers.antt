@@ -2,7 +2,6 @@ use Rattle.std.proofs.Common.{List, map, get_or, take, sym, ap, ◌∙◌}
 use Rattle.std.proofs.lemmas.List.{take_more, take_all}
 use Rattle.line.specs.declared.signal.Signal.{Signal}
 use Rattle.line.specs.declared.signal.Signal.TheVariants.{Reset}
-use Rattle.line.specs.Seats.{Seat}
 use Rattle.line.specs.Signals.{signalled, played}
 use Rattle.line.proofs.Plays.{played_none, played_more}
 use Rattle.line.proofs.playing.play_each.Goals as goal

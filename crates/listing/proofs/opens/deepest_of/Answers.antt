@@ -1,4 +1,4 @@
-use Rattle.std.proofs.Common.{◌≡◌, ℕ, ◌+◌, ◌<◌, Bool, true, false, cond, List, get_or, IfSome, Some, Option, sym, refl, ap, ◌∙◌, subst, arith}
+use Rattle.std.proofs.Common.{◌≡◌, ℕ, ◌+◌, ◌<◌, Bool, true, false, cond, List, get_or, IfSome, Some, Option, sym, ap, ◌∙◌, subst, arith}
 use Rattle.listing.specs.Rule.{deepest_below}
 use Rattle.listing.proofs.Steps.{deepest_more}
 use Rattle.listing.proofs.opens.deepest_of.Goals as goal

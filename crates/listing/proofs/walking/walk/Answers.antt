@@ -1,4 +1,4 @@
-use Rattle.std.proofs.Common.{◌≡◌, List, map, sym, ap, ◌∙◌}
+use Rattle.std.proofs.Common.{◌≡◌, map, sym, ap, ◌∙◌}
 use Rattle.address.specs.Bits.{bits}
 use Rattle.address.specs.Parts.{number}
 use Rattle.line.specs.declared.stage.Stage.TheVariants.{Search}
@@ -20,6 +20,6 @@ returns g c =
     let begun : g.L.Line.seats c.send_byte.new.line ≡ map (staged (λ _. Search 0 Bit)) ss =
     c.send_byte.ensures.after ∙ ap (sent (bits 0xf0)) c.reset.ensures.after ∙ search_begins ss in
     let both =
-    searched_given ss c.args.deepest (number c.args.last) c.args.opens (walk_of c.walk_bits.result) (g.L.Line.seats c.send_byte.new.line) (g.L.Line.seats c.walk_bits.new.line) (λ e. c.in-default.not-Empty (c.reset.ensures.present ∙ sym e)) begun
+    searched_given ss c.args.deepest (number c.args.last) c.args.opens (walk_of c.walk_bits.result) (g.L.Line.seats c.send_byte.new.line) (g.L.Line.seats c.walk_bits.new.line) (λ e. c.in_default.not-Empty (c.reset.ensures.present ∙ sym e)) begun
     (c.walk_bits.ensures.walk ss begun) (c.walk_bits.ensures.given ss begun) in
     record { walk = both.0; given = both.1 }

@@ -1,4 +1,4 @@
-use Rattle.std.proofs.Common.{◌≡◌, ℕ, List, map, refl, ap, ◌∙◌, arith}
+use Rattle.std.proofs.Common.{◌≡◌, ℕ, List, map, ap, ◌∙◌, arith}
 use Rattle.address.specs.Parts.{number}
 use Rattle.line.specs.declared.stage.Stage.TheVariants.{Search}
 use Rattle.line.specs.declared.stage.Turn.TheVariants.{Bit}
@@ -12,11 +12,11 @@ pub loop-bit-init : goal.loop-bit-init
 loop-bit-init g c =
     (omega arith, λ ss e. going_first ss c.args.deepest (number c.args.last) c.args.opens (g.L.Line.seats c.args.line.now) e)
 
-pub returns-in-default : goal.returns-in-default
-returns-in-default g c =
+pub returns-in_default : goal.returns-in_default
+returns-in_default g c =
     let stopped = λ (ss : List Seat) (e : g.L.Line.seats c.args.line.now ≡ map (staged (λ _. Search 0 Bit)) ss).
     bit_stops ss c.args.deepest (number c.args.last) c.args.opens (g.L.Line.seats c.args.line.now) c.loop-bit.bit c.loop-bit.sent c.loop-bit.opens (g.L.Line.seats c.loop-bit.line) (c.loop-bit.invariant.1 ss e) c.loop-bit-test.true
-    c.ask-answered.result.zero c.ask-answered.result.one (g.L.Line.seats c.ask-answered.new.line) c.ask-answered.ensures.zero c.ask-answered.ensures.one c.ask-answered.ensures.after c.in-default.ensures in
+    c.ask-answered.result.zero c.ask-answered.result.one (g.L.Line.seats c.ask-answered.new.line) c.ask-answered.ensures.zero c.ask-answered.ensures.one c.ask-answered.ensures.after c.in_default.ensures in
     record { walk = λ ss e. (stopped ss e).0; given = λ ss e. (stopped ss e).1 }
 
 pub loop-bit-preserved : goal.loop-bit-preserved

@@ -1,6 +1,5 @@
-use Rattle.std.proofs.Common.{◌≡◌, ◌<◌, Bool, true, cond, List, [], ◌∷◌, ◌++◌, map, vec_items, vec_len, vec_capacity, ap, ◌∙◌, arith, rules}
+use Rattle.std.proofs.Common.{◌<◌, Bool, cond, [], ◌∷◌, ◌++◌, map, vec_items, vec_len, vec_capacity, ap, ◌∙◌, arith, rules}
 use Rattle.std.proofs.lemmas.List.{map-append}
-use Rattle.address.specs.declared.Address.{Address}
 use Rattle.address.specs.Parts.{number}
 use Rattle.listing.proofs.listing.Listing.list.Goals as goal
 

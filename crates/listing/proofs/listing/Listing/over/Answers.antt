@@ -1,6 +1,5 @@
 use Rattle.std.proofs.Common.{sym, subst, arith}
 use Rattle.listing.specs.Meaning.{state_of}
-use Rattle.listing.specs.Rule.{State}
 use Rattle.listing.specs.Runs.{Limited}
 use Rattle.listing.proofs.Runs.{listings_are_truthful}
 use Rattle.listing.proofs.listing.Listing.over.Goals as goal

@@ -1,4 +1,4 @@
-use Rattle.std.proofs.Common.{◌≡◌, ℕ, ◌^◌, ◌<◌, cond, List, [], ◌∷◌, map, is_some, IfSome, Some, None, Option, sym, refl, ap, ◌∙◌}
+use Rattle.std.proofs.Common.{◌≡◌, ◌^◌, ◌<◌, List, IfSome, Some, None, Option, sym}
 use Rattle.std.specs.List.{AllByRecursion}
 use Rattle.line.specs.Seats.{Seat}
 use Rattle.listing.specs.declared.answer.PassRefusal.{PassRefusal}

@@ -1,8 +1,7 @@
 -- A row of lines, one after the other. Assumes nothing.
-use Rattle.std.specs.Prelude.{◌≡◌, ℕ, ◌+◌, ◌^◌, ◌<◌, ◌≤◌, Bool, true, false, ◌&&◌, ◌||◌, List, [], ◌∷◌, ◌++◌, map, length, get_or, take, drop, slice_index_or, slice_set, refl}
+use Rattle.std.specs.Prelude.{◌≡◌, ℕ, ◌+◌, ◌<◌, ◌≤◌, Bool, true, false, ◌&&◌, ◌||◌, List, [], ◌∷◌, ◌++◌, map, length, get_or, take, drop, slice_index_or, slice_set, refl}
 use Rattle.std.proofs.Common.{ap, sym, subst, ◌∙◌, le_refl}
-use Rattle.std.specs.List.{flat_map, AllByRecursion}
-use Rattle.std.proofs.ByRecursion.{All-append}
+use Rattle.std.specs.List.{flat_map}
 use Rattle.std.proofs.lemmas.List.{take_more, take_more_set, take_all, take-append-le, drop_more, drop-set, drop_all, flat_map_more, map-append, length-set}
 use Rattle.std.proofs.lemmas.Bool.{both_ways}
 use Rattle.line.specs.Seats.{Seat, drives_line, occupied}
@@ -15,10 +14,6 @@ tails : {A : Type 0} {x y : A} {xs ys : List A} → x ∷ xs ≡ y ∷ ys → xs
 tails e = cc
 
 module _ {L : Type 0} (f : L → List Seat) where
-  pub narrow_row : (xs : List L) → ((x : L) → AllByRecursion (λ s. s.address < 2 ^ 64) (f x)) → AllByRecursion (λ s. s.address < 2 ^ 64) (flat_map f xs)
-  narrow_row [] h = tt
-  narrow_row (x ∷ xs) h = All-append (λ s. s.address < 2 ^ 64) (f x) (flat_map f xs) (h x) (narrow_row xs h)
-
   -- the seats from line i on: those of that line, and those behind it
   from_line : (xs : List L) (i : ℕ) (x : L) → i < length xs → x ≡ slice_index_or xs i x → flat_map f (drop i xs) ≡ f x ++ flat_map f (drop (i + 1) xs)
   from_line xs i x h e = ap (flat_map f) (drop_more xs i x h) ∙ ap (λ (y : L). f y ++ flat_map f (drop (i + 1) xs)) (sym e)
