@@ -8,6 +8,6 @@ returns c =
     let f = c.args.bytes.now in
     let i = c.args.index in
     let l : i < count f = omega arith in
-    let text : IsUtf8 c.name-at.result.now = subst IsUtf8 (sym c.name-at.ensures) (name_utf8 f c.requires.sound i l) in
-    let name : string_bytes c.in-ok-name.name ≡ name_at f i = c.in-ok-name.ensures.ok text ∙ c.name-at.ensures in
-    λ j. record { address = c.address-at.ensures j; name = name j }
+    let text : IsUtf8 c.name_at.result.now = subst IsUtf8 (sym c.name_at.ensures) (name_utf8 f c.requires.sound i l) in
+    let name : string_bytes c.in_ok-name.name ≡ name_at f i = c.in_ok-name.ensures.ok text ∙ c.name_at.ensures in
+    λ j. record { address = c.address_at.ensures j; name = name j }

@@ -14,4 +14,4 @@ returns-in-Some c =
 pub loop-index-preserved : goal.loop-index-preserved
 loop-index-preserved c =
     let f = c.args.bytes.now in
-    below_more (λ i. (w : Flaw) → Has f i w → ⊥) c.loop-index.index c.loop-index.invariant c.in-default.ensures
+    below_more (λ i. (w : Flaw) → Has f i w → ⊥) c.loop-index.index c.loop-index.invariant c.in_default.ensures

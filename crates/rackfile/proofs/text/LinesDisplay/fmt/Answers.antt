@@ -24,9 +24,9 @@ loop-index-preserved g c = λ plain.
     let e = c.entry-item.result in
     let h : i < length es = c.loop-index-test.true in
     let before = c.loop-index.invariant plain in
-    let one = c.write.ensures.shows before.plain (ap is_ok c.in-ok-write.was) in
-    let spelled : figures (i + 1) ++ (codes " " ++ (hexadecimal (sent (number e.address)) ++ (codes " " ++ (c.as-str.result.now ++ codes "\n")))) ≡ line (i + 1) (listed (get_or es i e)) =
-    ap (λ (name : List ℕ). figures (i + 1) ++ (codes " " ++ (hexadecimal (sent (number e.address)) ++ (codes " " ++ (name ++ codes "\n"))))) c.as-str.ensures.value
+    let one = c.write.ensures.writes before.plain (ap is_ok c.in_ok-write.was) in
+    let spelled : figures (i + 1) ++ (codes " " ++ (hexadecimal (sent (number e.address)) ++ (codes " " ++ (c.as_str.result.now ++ codes "\n")))) ≡ line (i + 1) (listed (get_or es i e)) =
+    ap (λ (name : List ℕ). figures (i + 1) ++ (codes " " ++ (hexadecimal (sent (number e.address)) ++ (codes " " ++ (name ++ codes "\n"))))) c.as_str.ensures.value
     ∙ ap (λ (x : Entry). line (i + 1) (listed x)) c.entry-item.is in
     has_written_of_eq took _ _ _ _ (ap (λ (l : List ℕ). lines 1 (map listed (take i es)) ++ l) spelled ∙ sym (lines_more es i e h))
     (has_written_append took _ _ _ _ _ before one)

@@ -17,4 +17,4 @@ returns-clause-writes g c = λ plain ok.
     let rest = lines 1 (map listed es) in
     let parted : codes "rack " ++ (figures n ++ (codes " width " ++ (figures w ++ (codes "\n" ++ rest)))) ≡ heading n w ++ rest = regrouped (codes "rack ") (figures n) (codes " width ") (figures w) (codes "\n") rest in
     let counted : n ≡ length (map listed es) = sym (length-map es listed) in
-    has_written_of_eq g.W.Write.write_str_gives _ _ _ _ (parted ∙ ap (λ (k : ℕ). heading k w ++ rest) counted) (c.write.ensures.shows plain ok)
+    has_written_of_eq g.W.Write.write_str_gives _ _ _ _ (parted ∙ ap (λ (k : ℕ). heading k w ++ rest) counted) (c.write.ensures.writes plain ok)
