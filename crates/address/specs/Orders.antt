@@ -7,7 +7,7 @@ use Rattle.std.proofs.lemmas.Bool.{both_ways, cases_order}
 use Rattle.address.specs.declared.Address.{Address}
 use Rattle.address.specs.Bits.{bit}
 use Rattle.address.specs.Parts.{number}
-use Rattle.address.specs.SearchOrder.{Agree, Before, StrictTotal, Ranking, ranked, standing, search_cmp}
+use Rattle.address.specs.SearchOrder.{Agree, Before, StrictTotal, Ranking, TotalRanking, ranked, standing, search_cmp}
 use Rattle.address.specs.Numbers.{agree_same, agree_more}
 
 irreflexive : (a : ℕ) → Before a a → ⊥
@@ -90,6 +90,15 @@ ranks x y = with_equal (search_cmp x y) (Before (number x) (number y)) (number x
 -- what `cmp` answers is a total order
 pub addresses : IsTotalOrder search_cmp
 addresses = strict (λ (x y : Address). Before (number x) (number y)) (λ x. irreflexive (number x)) (λ x y z. transitive (number x) (number y) (number z)) search_cmp ranks
+
+pub ranking : TotalRanking Ranking
+ranking =
+    record {
+      cmp = search_cmp;
+      answers = ranks;
+      one = λ x y r s. one_rank (λ (v w : Address). Before (number v) (number w)) (λ v. irreflexive (number v)) (λ v w z. transitive (number v) (number w) (number z)) x y r s;
+      total = addresses;
+    }
 
 -- `==` holds of what `cmp` does not tell apart
 as_equal : (a b : ℕ) (r : Ordering) → MatchOrdering r (Before a b) (a ≡ b) (Before b a) → (a == b) ≡ is_eq r

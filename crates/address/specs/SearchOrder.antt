@@ -2,6 +2,7 @@
 use Rattle.std.specs.Prelude.{◌≡◌, ℕ, zero, suc, ◌+◌, ◌<◌, true, false, ◌⊎◌}
 use Rattle.std.specs.declared.cmp.Ordering.{Ordering}
 use Rattle.std.specs.declared.cmp.Ordering.TheVariants.{Equal}
+use Rattle.std.specs.Cmp.{IsTotalOrder}
 use Rattle.std.specs.Ordering.{MatchOrdering, ordering_then, bool_cmp}
 use Rattle.address.specs.declared.Address.{Address}
 use Rattle.address.specs.Bits.{bit}
@@ -37,3 +38,10 @@ search_cmp x y = standing (number x) (number y)
 -- what a comparison of two addresses answers: which comes first, or that they are the same
 abbrev pub Ranking : Address → Address → Ordering → Type 0
 Ranking x y r = MatchOrdering r (Before (number x) (number y)) (x ≡ y) (Before (number y) (number x))
+
+-- a relation that gives one answer for each two addresses, which make a total order
+pub record TotalRanking (R : Address → Address → Ordering → Type 0) : Type 0 where
+  pub cmp : Address → Address → Ordering
+  pub answers : (x y : Address) → R x y (cmp x y)
+  pub one : (x y : Address) (r s : Ordering) → R x y r → R x y s → r ≡ s
+  pub total : IsTotalOrder cmp

@@ -1,8 +1,7 @@
 // Search order: at the lowest bit at which two addresses differ, the one with 0 comes first.
-ghost use Rattle.std.specs.Prelude.{◌≡◌};
+ghost use Rattle.std.specs.Prelude.{◌≡◌, IsSomeAnd, Some};
 ghost use Rattle.std.specs.Ordering.{MatchOrdering, as_partial_cmp};
-ghost use Rattle.std.specs.Cmp.{IsTotalOrder};
-ghost use Rattle.address.specs.SearchOrder.{Before, StrictTotal, Ranking, standing, search_cmp};
+ghost use Rattle.address.specs.SearchOrder.{Before, StrictTotal, Ranking, TotalRanking, standing, search_cmp};
 ghost use Rattle.address.specs.Orders.{addresses, orders_agree, orders_partly, orders_as_equal};
 
 use crate::{Address, bit_of};
@@ -13,7 +12,10 @@ impl PartialOrd for Address {
 
     ghost laws = { orders_partly };
 
-    fn partial_cmp(&self, other: &Address) -> Option<Ordering> {
+    fn partial_cmp(&self, other: &Address) -> Option<Ordering>
+        ensures value { result ≡ Some (search_cmp self.now other.now) }
+        ensures answer { IsSomeAnd result (Ranking self.now other.now) }
+    {
         Some(self.cmp(other))
     }
 }
@@ -31,8 +33,7 @@ impl Ord for Address {
         ensures value { result ≡ search_cmp self.now other.now }
         ensures answer { Ranking self.now other.now result }
         ensures law { StrictTotal Before }
-        ensures sorts { IsTotalOrder search_cmp }
-        ensures ranks { (x y : Address) → Ranking x y (search_cmp x y) }
+        ensures sorts { TotalRanking Ranking }
     {
         compared(self.bits, other.bits)
     }
@@ -43,8 +44,7 @@ fn compared(a: u64, b: u64) -> Ordering
     ensures value { result ≡ standing a b }
     ensures answer { MatchOrdering result (Before a b) (a ≡ b) (Before b a) }
     ensures law { StrictTotal Before }
-    ensures sorts { IsTotalOrder search_cmp }
-    ensures ranks { (x y : Address) → Ranking x y (search_cmp x y) }
+    ensures sorts { TotalRanking Ranking }
 {
     for k in 0..64 {
         let first = bit_of(a, k);

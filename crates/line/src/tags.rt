@@ -4,7 +4,6 @@ ghost use Rattle.address.specs.Parts.{number};
 ghost use Rattle.line.specs.Kinds.{seat_of, new_seat};
 ghost use Rattle.line.specs.Lives.{LawfulHistory, HistoriesAreLawful};
 ghost use Rattle.line.specs.Seats.{is_chosen};
-ghost use Rattle.std.proofs.Common.{rules};
 
 use crate::Line;
 use crate::presence::Presence;
@@ -36,7 +35,7 @@ impl Tag {
 impl Line for Tag {
     ghost seats = { λ t. seat_of t ∷ [] };
 
-    ghost narrow = { Prim.search rules };
+    ghost narrow = { λ t. (t.narrow, tt) };
 
     fn drive(&self) -> bool {
         self.stage.drives(self.address)

@@ -11,7 +11,6 @@ ghost use Rattle.line.specs.Seats.{takes_seat, reset_seat};
 ghost use Rattle.line.specs.Lives.{LawfulHistory, FollowsBy, HistoriesAreLawful};
 ghost use Rattle.pack.specs.Lives.{LawfulSeat, FollowsSeat, LivesAreLawful};
 ghost use Rattle.pack.specs.Packs.{seat_of, new_seat, store_of, ticked_seat, measured_seat};
-ghost use Rattle.std.proofs.Common.{rules};
 
 use address::Address;
 use ds2760::Store;
@@ -87,7 +86,7 @@ impl Pack {
 impl Line for Pack {
     ghost seats = { λ p. seat_of p ∷ [] };
 
-    ghost narrow = { Prim.search rules };
+    ghost narrow = { λ p. (p.tag.narrow, tt) };
 
     fn drive(&self) -> bool {
         if !self.tag.is_chosen() {

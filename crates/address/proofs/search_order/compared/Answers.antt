@@ -2,7 +2,7 @@ use Rattle.std.proofs.Common.{Less, Equal, Greater, ◌≡◌, ◌^◌, ◌<◌,
 use mathlib.Core.Bool.{beq}
 use Rattle.address.specs.SearchOrder.{Agree, Before}
 use Rattle.address.specs.Numbers.{agree_same}
-use Rattle.address.specs.Orders.{search_order, addresses, ranks, one_standing}
+use Rattle.address.specs.Orders.{search_order, ranking, one_standing}
 use Rattle.address.proofs.search_order.compared.Goals as goal
 
 -- of two bits that differ, one tells the other
@@ -20,8 +20,7 @@ returns-then-first c =
       value = one_standing c.args.a c.args.b Greater answer;
       answer = answer;
       law = search_order;
-      sorts = addresses;
-      ranks = ranks;
+      sorts = ranking;
     }
 
 pub returns-else-first : goal.returns-else-first
@@ -32,8 +31,7 @@ returns-else-first c =
       value = one_standing c.args.a c.args.b Less answer;
       answer = answer;
       law = search_order;
-      sorts = addresses;
-      ranks = ranks;
+      sorts = ranking;
     }
 
 pub returns : goal.returns
@@ -46,6 +44,5 @@ returns c =
       value = one_standing c.args.a c.args.b Equal answer;
       answer = answer;
       law = search_order;
-      sorts = addresses;
-      ranks = ranks;
+      sorts = ranking;
     }
