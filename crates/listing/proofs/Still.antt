@@ -54,8 +54,8 @@ module _ (xs : List ℕ) (limit : ℕ) (narrow : Narrow xs) (apart : Different x
         let b = ahead_behind some.0 some.1 (later_before s.last some.0 some.2) in
         ⊎_elim (λ c. absurd (both_ways _ (h.steady.ends.0 c b.0) b.1)) (λ c. c) (cases_Bool s.complete)
 
-    goes_on_lem : i < length xs → length xs ≤ limit → pass_refusal s ≡ None
-    goes_on_lem l m = going_on s (incomplete l) (omega (arith, h.few, h.limits))
+    unrefused : i < length xs → length xs ≤ limit → pass_refusal s ≡ None
+    unrefused l m = going_on s (incomplete l) (omega (arith, h.few, h.limits))
 
     not_closed : (k : ℕ) → deepest s.opens ≡ Some k → is_closed (outcome xs s) ≡ true → ⊥
     not_closed k e c =
@@ -164,7 +164,7 @@ module _ (xs : List ℕ) (limit : ℕ) (narrow : Narrow xs) (apart : Different x
 
 -- n passes from here on read addresses, and then the listing is complete
 record Rest (xs : List ℕ) (n : ℕ) (s : State) : Type 0 where
-  goes_on_lem : (j : ℕ) → j < n → pass_refusal (again j xs s) ≡ None
+  unrefused : (j : ℕ) → j < n → pass_refusal (again j xs s) ≡ None
   reads : (j : ℕ) → j < n → is_closed (outcome xs (again j xs s)) ≡ false
   ends : (again n xs s).complete ≡ true
 
@@ -176,7 +176,7 @@ each_more P xs n s e here rest (suc j) l = subst P (sym (again_more j xs s (ap i
 rest_more : (xs : List ℕ) (n : ℕ) (s : State) → pass_refusal s ≡ None → is_closed (outcome xs s) ≡ false → Rest xs n (passed xs s) → Rest xs (suc n) s
 rest_more xs n s e r h =
     record {
-      goes_on_lem = each_more (λ t. pass_refusal t ≡ None) xs n s e e h.goes_on_lem;
+      unrefused = each_more (λ t. pass_refusal t ≡ None) xs n s e e h.unrefused;
       reads = each_more (λ t. is_closed (outcome xs t) ≡ false) xs n s e r h.reads;
       ends = ap (λ (t : State). t.complete) (again_more n xs s (ap is_some e)) ∙ h.ends;
     }
@@ -185,13 +185,13 @@ module _ (xs : List ℕ) (limit : ℕ) (narrow : Narrow xs) (apart : Different x
   rest : (n i : ℕ) (s : State) → Nearly xs limit i s → i + n ≡ length xs → Rest xs n s
   rest zero i s h e =
       record {
-        goes_on_lem = λ j l. absurd (omega arith);
+        unrefused = λ j l. absurd (omega arith);
         reads = λ j l. absurd (omega arith);
         ends = ap (λ (t : State). t.complete) (again_none xs s) ∙ complete xs limit narrow apart i s h (omega arith);
       }
   rest (suc n) i s h e =
       let l : i < length xs = omega arith in
-      rest_more xs n s (goes_on_lem xs limit narrow apart i s h l room) (reads xs limit narrow apart i s h l)
+      rest_more xs n s (unrefused xs limit narrow apart i s h l room) (reads xs limit narrow apart i s h l)
       (rest n (i + 1) (passed xs s) (nearly_more xs limit narrow apart i s h l) (omega arith))
 
   all_rest : (n : ℕ) → length xs ≡ suc n → Rest xs (suc n) (begun limit)
@@ -204,7 +204,7 @@ straight : (xs : List ℕ) (limit : ℕ) → Narrow xs → Different xs → max 
 straight [] limit narrow apart room =
     let open-yet = going_on (begun limit) refl (omega arith) in
     record {
-      goes_on_lem = λ i l. let first : i ≡ 0 = omega arith in subst (λ (j : ℕ). pass_refusal (again j [] (begun limit)) ≡ None) (sym first) (ap pass_refusal (again_none [] (begun limit)) ∙ open-yet);
+      unrefused = λ i l. let first : i ≡ 0 = omega arith in subst (λ (j : ℕ). pass_refusal (again j [] (begun limit)) ≡ None) (sym first) (ap pass_refusal (again_none [] (begun limit)) ∙ open-yet);
       reads = λ i l. absurd (omega arith);
       ends = ap (λ (t : State). t.complete) (again_more 0 [] (begun limit) (ap is_some open-yet) ∙ again_none [] (passed [] (begun limit)));
     }
@@ -212,7 +212,7 @@ straight (x ∷ xs) limit narrow apart room =
     let h = all_rest (x ∷ xs) limit narrow apart (omega arith) (length xs) refl in
     let many : max (length (x ∷ xs)) 1 ≡ suc (length xs) = omega arith in
     record {
-      goes_on_lem = λ i l. h.goes_on_lem i (omega arith);
+      unrefused = λ i l. h.unrefused i (omega arith);
       reads = h.reads;
       ends = ap (λ (n : ℕ). (again n (x ∷ xs) (begun limit)).complete) many ∙ h.ends;
     }
@@ -220,7 +220,7 @@ straight (x ∷ xs) limit narrow apart room =
 straight_alike : (line xs : List ℕ) (s : State) → Alike line xs → Straight xs xs s → Straight line xs s
 straight_alike line xs s same h =
     record {
-      goes_on_lem = λ i l. ap pass_refusal (again_like i line xs same s) ∙ h.goes_on_lem i l;
+      unrefused = λ i l. ap pass_refusal (again_like i line xs same s) ∙ h.unrefused i l;
       reads = λ i l.
           ap is_closed (ap (outcome line) (again_like i line xs same s) ∙ (passes_see_addresses line xs same (again i xs s)).answer) ∙ h.reads i l;
       ends = ap (λ (t : State). t.complete) (again_like (max (length xs) 1) line xs same s) ∙ h.ends;

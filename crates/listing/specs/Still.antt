@@ -44,7 +44,7 @@ PassesProgress =
 -- passes after a begin, over a line that stays, with the n different addresses xs on it
 pub record Straight (line xs : List ℕ) (s : State) : Type 0 where
   -- before max n 1 passes it is not complete, nor at its limit
-  pub goes_on_lem : (i : ℕ) → i < max (length xs) 1 → pass_refusal (again i line s) ≡ None
+  pub unrefused : (i : ℕ) → i < max (length xs) 1 → pass_refusal (again i line s) ≡ None
   -- each pass reads an address, unless the line is empty
   pub reads : (i : ℕ) → i < length xs → is_closed (outcome line (again i line s)) ≡ false
   -- max n 1 passes make it complete
