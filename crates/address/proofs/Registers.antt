@@ -1,8 +1,7 @@
 -- The register as a byte, and a byte as a register. Assumes nothing.
-use Rattle.std.proofs.Common.{◌≡◌, ℕ, ◌+◌, ◌/◌, ◌<◌, ◌≤◌, Bool, true, false, cond, ◌&&◌, eqb, List, [], ◌∷◌, ◌++◌, length, get_or, drop, sym, refl, ap, ◌∙◌, zero-add, arith}
+use Rattle.std.proofs.Common.{◌≡◌, ℕ, ◌+◌, ◌/◌, ◌<◌, ◌≤◌, Bool, true, false, cond, ◌&&◌, eqb, List, [], ◌∷◌, ◌++◌, length, get_or, drop, sym, refl, ap, ◌∙◌, arith}
 use lib.Bits.{bit_xor}
 use Rattle.std.specs.List.{flat_map}
-use Rattle.std.proofs.lemmas.List.FromFn.{get_or-map-range_with_len}
 use Rattle.std.proofs.lemmas.List.{drop_more}
 use Rattle.std.proofs.lemmas.Bool.{and_parts, eqb-true}
 use Rattle.address.specs.Bits.{bit, bits}
@@ -62,16 +61,12 @@ unfolding fed
 fed_append [] cs r = refl
 fed_append (b ∷ bs) cs r = fed_append bs cs (shifted b r)
 
--- bit k of a byte, and then those behind it
-pub fed_bit : (byte k n : ℕ) → k < 8 → fed (drop k (bits byte)) (stages n) ≡ fed (drop (k + 1) (bits byte)) (stages (byte_of (shifted (bit k byte) (stages n))))
+-- one bit, and then those behind it
+pub fed_bit : (bs : List Bool) (k n : ℕ) → k < length bs → fed (drop k bs) (stages n) ≡ fed (drop (k + 1) bs) (stages (byte_of (shifted (get_or bs k false) (stages n))))
 unfolding fed
-fed_bit byte k n h =
-    let f : ℕ → Bool = λ j. bit j byte in
-    let l : k < length (bits byte) = h in
-    let at : get_or (bits byte) k false ≡ bit k byte = get_or-map-range_with_len f 0 8 k k false h (zero-add k) in
-    ap (λ (bs : List Bool). fed bs (stages n)) (drop_more (bits byte) k false l)
-    ∙ ap (λ (b : Bool). fed (drop (k + 1) (bits byte)) (shifted b (stages n))) at
-    ∙ ap (fed (drop (k + 1) (bits byte))) (sym (stages_of (shifted (bit k byte) (stages n))))
+fed_bit bs k n h =
+    ap (λ (xs : List Bool). fed xs (stages n)) (drop_more bs k false h)
+    ∙ ap (fed (drop (k + 1) bs)) (sym (stages_of (shifted (get_or bs k false) (stages n))))
 
 -- one byte, and then those behind it
 pub fed_byte : (bytes : List ℕ) (i n : ℕ) → i < length bytes → fed (flat_map bits (drop i bytes)) (stages n) ≡ fed (flat_map bits (drop (i + 1) bytes)) (stages (byte_of (fed (bits (get_or bytes i 0)) (stages n))))

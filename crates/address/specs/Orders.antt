@@ -66,7 +66,7 @@ ranked_by zero a b = λ j l. absurd (omega arith)
 ranked_by (suc k) a b = one_bit_more k a b (ranked k a b) (bit k a) (bit k b) (ranked_by k a b) refl refl
 
 -- the same answer, of equal numbers for numbers that agree
-with_equal : (r : Ordering) (P Q S R : Type 0) → (Q → S) → MatchOrdering r P Q R → MatchOrdering r P S R
+pub with_equal : (r : Ordering) (P Q S R : Type 0) → (Q → S) → MatchOrdering r P Q R → MatchOrdering r P S R
 with_equal Less P Q S R f h = h
 with_equal Equal P Q S R f h = f h
 with_equal Greater P Q S R f h = h
@@ -81,7 +81,7 @@ stands a b =
 pub one_standing : (a b : ℕ) (r : Ordering) → MatchOrdering r (Before a b) (a ≡ b) (Before b a) → r ≡ standing a b
 one_standing a b r h = one_rank Before irreflexive transitive a b r (standing a b) h (stands a b)
 
-same_address : (x y : Address) → number x ≡ number y → x ≡ y
+pub same_address : (x y : Address) → number x ≡ number y → x ≡ y
 same_address x y e = λ i. record { bits = e i }
 
 pub ranks : (x y : Address) → Ranking x y (search_cmp x y)

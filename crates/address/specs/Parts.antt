@@ -1,6 +1,8 @@
 -- An address is a number of 64 bits: family, serial number and check byte. Assumes nothing.
-use Rattle.std.specs.Prelude.{ℕ, zero, suc, ◌+◌, ◌*◌, ◌/◌, ◌%◌, ◌^◌, Bool, List, [], ◌∷◌, take, ◌==◌}
+use Rattle.std.specs.Prelude.{ℕ, zero, suc, ◌+◌, ◌*◌, ◌/◌, ◌%◌, ◌^◌, Bool, List, [], ◌∷◌, map, take, ◌==◌}
+use Rattle.std.specs.List.{range_with_len}
 use Rattle.address.specs.declared.Address.{Address}
+use Rattle.address.specs.Bits.{bit}
 use Rattle.address.specs.CheckByte.{check_byte}
 
 -- an address as a number
@@ -18,6 +20,10 @@ serial_number n = n / 256 % 2 ^ 48
 -- the top byte: the check byte that the address has
 abbrev pub top_byte : ℕ → ℕ
 top_byte n = n / 2 ^ 56 % 256
+
+-- the 64 bits of an address, the lowest first
+abbrev pub address_bits : ℕ → List Bool
+address_bits n = map (λ k. bit k n) (range_with_len 0 64)
 
 -- k bytes of a number in sending order, the lowest first
 abbrev pub low_bytes : ℕ → ℕ → List ℕ

@@ -5,6 +5,8 @@ ghost use Rattle.address.specs.Bits.{bit, bits};
 ghost use Rattle.address.specs.CheckByte.{shifted, fed, byte_of, stages, check_byte};
 ghost use Rattle.address.specs.Division.{Remainder};
 
+use crate::bits::bits_of;
+
 // X^5 + X^4 + 1 as the register has it, with the coefficient of X^0 in the highest bit.
 const FEEDBACK: u8 = 0x8C;
 
@@ -25,8 +27,8 @@ fn feed(register: u8, byte: u8) -> u8
     ensures { result ≡ byte_of (fed (bits byte) (stages register)) }
 {
     let mut register = register;
-    for k in 0..8u8 {
-        register = shift(register, (byte >> k) % 2 == 1);
+    for level in bits_of(byte) {
+        register = shift(register, level);
     }
     register
 }

@@ -2,14 +2,17 @@
 #![tactic(auto)]
 
 ghost use Rattle.std.specs.Prelude.{◌≡◌, [], ◌∷◌};
-ghost use Rattle.address.specs.Bits.{bit};
+ghost use Rattle.address.specs.Bits.{bit, with_bit_set};
 ghost use Rattle.address.specs.CheckByte.{check_byte};
-ghost use Rattle.address.specs.Parts.{number, family, serial_number, top_byte, sent, received, right};
+ghost use Rattle.address.specs.Parts.{number, family, serial_number, top_byte, sent, received, right, address_bits};
 
+mod bits;
 mod check_byte;
 mod hexadecimal;
 mod search_order;
 
+pub use bits::bits_of;
+use bits::{bit_of, bit_set, lowest_bits};
 pub use check_byte::check_byte_of;
 
 // The lowest byte is the family, the next six the serial number, the top byte the check byte.
@@ -19,7 +22,8 @@ pub struct Address {
 }
 
 impl Address {
-    // The address with these bytes, which are in sending order: family first, check byte last.
+    // The address with these bytes, which are in sending order: family first, check byte last. A `From`
+    // would not say in which order they are.
     pub fn from_bytes(bytes: [u8; 8]) -> Address
         ensures value { number result ≡ received bytes }
         ensures back { sent (number result) ≡ bytes }
@@ -41,7 +45,23 @@ impl Address {
     pub fn bit(self, k: u32) -> bool
         ensures { result ≡ bit k (number self) }
     {
-        bit_of(self.bits, k)
+        bit_of(self.bits, k as usize)
+    }
+
+    // Its bits, the lowest first.
+    pub fn bits(self) -> [bool; 64]
+        ensures { result ≡ address_bits (number self) }
+    {
+        lowest_bits(self.bits)
+    }
+
+    // The same address with a 1 at bit k; from bit 64 on there is no bit to set.
+    pub fn with_bit_set(self, k: u32) -> Address
+        ensures { number result ≡ with_bit_set k (number self) }
+    {
+        Address {
+            bits: bit_set(self.bits, k),
+        }
     }
 
     pub fn family(self) -> u8
@@ -103,12 +123,6 @@ fn packed(bytes: &[u8; 8]) -> u64
     ensures back { sent result ≡ bytes.now }
 {
     u64::from_le_bytes(*bytes)
-}
-
-fn bit_of(bits: u64, k: u32) -> bool
-    ensures { result ≡ bit k bits }
-{
-    k < 64 && (bits >> k) % 2 == 1
 }
 
 #[cfg(test)]

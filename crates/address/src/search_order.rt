@@ -4,9 +4,10 @@ ghost use Rattle.std.specs.Ordering.{MatchOrdering, as_partial_cmp};
 ghost use Rattle.address.specs.SearchOrder.{Before, StrictTotal, Ranking, TotalRanking, standing, search_cmp};
 ghost use Rattle.address.specs.Orders.{addresses, orders_agree, orders_partly, orders_as_equal};
 
-use crate::{Address, bit_of};
+use crate::Address;
 use std::cmp::Ordering;
 
+// A derived order would be that of the numbers.
 impl PartialOrd for Address {
     ghost partial_cmp = { as_partial_cmp search_cmp };
 
@@ -35,26 +36,16 @@ impl Ord for Address {
         ensures law { StrictTotal Before }
         ensures sorts { TotalRanking Ranking }
     {
-        compared(self.bits, other.bits)
+        compared(*self, *other)
     }
 }
 
-// How two numbers stand in search order.
-fn compared(a: u64, b: u64) -> Ordering
-    ensures value { result ≡ standing a b }
-    ensures answer { MatchOrdering result (Before a b) (a ≡ b) (Before b a) }
+// How two addresses stand in search order.
+fn compared(a: Address, b: Address) -> Ordering
+    ensures value { result ≡ search_cmp a b }
+    ensures answer { Ranking a b result }
     ensures law { StrictTotal Before }
     ensures sorts { TotalRanking Ranking }
 {
-    for k in 0..64 {
-        let first = bit_of(a, k);
-        if first != bit_of(b, k) {
-            return if first {
-                Ordering::Greater
-            } else {
-                Ordering::Less
-            };
-        }
-    }
-    Ordering::Equal
+    a.bits().cmp(&b.bits())
 }

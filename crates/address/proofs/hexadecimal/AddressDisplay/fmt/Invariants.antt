@@ -1,7 +1,7 @@
 use Rattle.std.proofs.Common.{take}
 use Rattle.std.specs.Fmt.{IsPlainFormatter, HasWritten}
 use Rattle.address.specs.Hexadecimal.{hexadecimal}
-use Rattle.address.proofs.hexadecimal.HexDisplay.fmt.Given as goal
+use Rattle.address.proofs.hexadecimal.AddressDisplay.fmt.Given as goal
 
 -- the bytes so far are written
 abbrev pub invariant-loop-byte : goal.invariant-loop-byte
