@@ -1,16 +1,16 @@
 -- What writes, recalls and copies come to. Assumes nothing.
-use Rattle.std.proofs.Common.{◌≡◌, ℕ, zero, suc, ◌+◌, ◌-◌, ◌*◌, ◌/◌, ◌%◌, ◌<◌, ◌≤◌, Bool, true, false, cond, ◌&&◌, eqb, ltb, leb, List, [], ◌∷◌, length, get_or, take, drop, set, ℤ, pos, negsuc, ◌≤ℤ◌, Option, sym, refl, ap, ◌∙◌, subst, arith}
+use Rattle.std.proofs.Common.{◌≡◌, ℕ, zero, suc, ◌+◌, ◌-◌, ◌*◌, ◌/◌, ◌%◌, ◌<◌, ◌≤◌, Bool, true, false, cond, ◌&&◌, eqb, ltb, leb, List, [], ◌∷◌, length, get_or, take, drop, set, ℤ, pos, negsuc, ◌≤ℤ◌, Some, None, Option, sym, refl, ap, ◌∙◌, subst, arith}
 use Rattle.std.specs.List.{AllByRecursion}
 use Rattle.std.proofs.lemmas.Int.{ints}
 use Rattle.std.proofs.lemmas.List.{get_or-set_same, take_at, drop_at, length-take-le}
 use Rattle.std.proofs.lemmas.Bool.{and_parts, leb-true, cond-true, cond-false, ne_eqb, eqb-true, eqb-false}
 use Rattle.gauge.specs.Registers.{complement, register, decoded}
-use Rattle.ds2760.specs.declared.progress.Block.{Block}
-use Rattle.ds2760.specs.declared.progress.Block.TheVariants.{Zero, One}
-use Rattle.ds2760.specs.declared.progress.Command.TheVariants.{Copy, Recall}
-use Rattle.ds2760.specs.declared.progress.Copying.TheVariants.{No, Waiting, Running}
+use Rattle.ds2760.specs.declared.block.Block.{Block}
+use Rattle.ds2760.specs.declared.block.Block.TheVariants.{Zero, One}
+use Rattle.ds2760.specs.declared.command.Command.TheVariants.{Copy, Recall}
+use Rattle.ds2760.specs.declared.progress.Copying.TheVariants.{Waiting, Running}
 use Rattle.ds2760.specs.declared.progress.Progress.TheVariants.{Finished}
-use Rattle.ds2760.specs.Commands.{replaced, is_locked, copy_asked, recall_asked, recalled, copied, asked, ticked}
+use Rattle.ds2760.specs.Commands.{replaced, is_locked, within, copy_asked, recall_asked, recalled, copied, asked, ticked}
 use Rattle.ds2760.specs.Effects.{Whole, back_at, WritesReadBack, RecallsRestore, Starts, ticks, Completes, CopiesComplete}
 use Rattle.ds2760.specs.Map.{Place, amount, reserved, Row, rows, place_in, place_of, eec, held, held_at, written, written_at, writable}
 use Rattle.ds2760.specs.Runs.{Call, slot, reset, tick, measure, does, half}
@@ -136,13 +136,13 @@ pub recalls_restore : RecallsRestore
 recalls_restore block a s w e idle =
     let t = with_progress Finished s in
     let asks : asked Recall a s ≡ recalled block t =
-    ap (λ (o : Option Block). recall_asked o t) e ∙ cond-false (eec s.copying) t (recalled block t) idle in
+    ap (λ (o : Option Block). within recall_asked o t) e ∙ cond-false (eec s.copying) t (recalled block t) idle in
     ap (λ (u : State). half block u.shadow) asks
     ∙ ap (half block) (recalled_shadow block t)
     ∙ half_replaced block s.eeprom s.shadow w.eeprom w.shadow
 
-module _ (block : Block) (t : State) (runs : t.copying ≡ Running block 10) where
-  counted : (n : ℕ) → n < 10 → ticks n t ≡ with_copying (Running block (10 - n)) t
+module _ (block : Block) (t : State) (runs : t.copying ≡ Some (Running block 10)) where
+  counted : (n : ℕ) → n < 10 → ticks n t ≡ with_copying (Some (Running block (10 - n))) t
   counted zero l = ap (λ c. with_copying c t) runs
   counted (suc n) l =
       let k = 10 - n in
@@ -151,12 +151,12 @@ module _ (block : Block) (t : State) (runs : t.copying ≡ Running block 10) whe
       let less : k - 1 ≡ 10 - suc n = omega arith in
       ap ticked (counted n before)
       ∙ cond-false (eqb k 1) _ _ (ne_eqb k 1 more)
-      ∙ ap (λ (m : ℕ). with_copying (Running block m) t) less
+      ∙ ap (λ (m : ℕ). with_copying (Some (Running block m)) t) less
 
-  tenth : ticks 10 t ≡ with_copying No (copied block t)
+  tenth : ticks 10 t ≡ with_copying None (copied block t)
   tenth = ap ticked (counted 9 (omega arith))
 
-completes : (block : Block) (s t : State) → Whole s → t.copying ≡ Running block 10 → t.eeprom ≡ s.eeprom → t.shadow ≡ s.shadow → Completes block s t
+completes : (block : Block) (s t : State) → Whole s → t.copying ≡ Some (Running block 10) → t.eeprom ≡ s.eeprom → t.shadow ≡ s.shadow → Completes block s t
 completes block s t w runs e x =
     record {
       before = λ n l.
@@ -172,11 +172,11 @@ completes block s t w runs e x =
 pub copies_complete : CopiesComplete
 copies_complete block a s w e open' c starts =
     let t = with_progress Finished s in
-    let asks : asked Copy a s ≡ with_copying (Waiting block) t =
-    ap (λ (o : Option Block). copy_asked o t) e ∙ cond-true (writable (is_locked block s) s) (with_copying (Waiting block) t) t open' in
+    let asks : asked Copy a s ≡ with_copying (Some (Waiting block)) t =
+    ap (λ (o : Option Block). within copy_asked o t) e ∙ cond-true (writable (is_locked block s) s) (with_copying (Some (Waiting block)) t) t open' in
     subst (λ (u : State). Completes block s (does c u)) (sym asks) (begins c starts)
   where
-    begins : (c : Call) → Starts c → Completes block s (does c (with_copying (Waiting block) (with_progress Finished s)))
+    begins : (c : Call) → Starts c → Completes block s (does c (with_copying (Some (Waiting block)) (with_progress Finished s)))
     begins (slot level) _ = completes block s _ w refl refl refl
     begins reset _ = completes block s _ w refl refl refl
     begins tick h = absurd h

@@ -1,3 +1,4 @@
 pub mod Quiet
+pub mod Halves
 pub mod Runs
 pub mod Effects

@@ -1,16 +1,17 @@
 -- Slots and resets leave the EEPROM and every set lock flag alone. Assumes nothing.
-use Rattle.std.proofs.Common.{◌≡◌, ℕ, ◌+◌, ◌-◌, Bool, true, false, cond, not, ◌&&◌, ltb, List, length, set, Some, None, Option, refl, ap, ◌∙◌, arith}
+use Rattle.std.proofs.Common.{◌≡◌, ℕ, ◌-◌, Bool, true, false, cond, not, ◌&&◌, List, length, set, Some, None, Option, Ok, Err, Result, refl, ap, ◌∙◌, arith}
 use Rattle.std.proofs.lemmas.List.{length-append, length-take, length-drop, length-set}
 use Rattle.std.proofs.lemmas.Bool.{and_parts, and_from, both_ways, not-true}
-use Rattle.ds2760.specs.declared.progress.Block.{Block}
-use Rattle.ds2760.specs.declared.progress.Block.TheVariants.{Zero, One}
-use Rattle.ds2760.specs.declared.progress.Command.{Command}
-use Rattle.ds2760.specs.declared.progress.Command.TheVariants.{Read, Write, Copy, Recall, Lock}
+use Rattle.ds2760.specs.declared.block.Block.{Block}
+use Rattle.ds2760.specs.declared.block.Block.TheVariants.{Zero, One}
+use Rattle.ds2760.specs.declared.command.Command.{Command}
+use Rattle.ds2760.specs.declared.command.Command.TheVariants.{Read, Write, Copy, Recall, Lock}
+use Rattle.ds2760.specs.declared.partial.Partial.{Partial}
 use Rattle.ds2760.specs.declared.progress.Copying.{Copying}
-use Rattle.ds2760.specs.declared.progress.Copying.TheVariants.{No, Waiting, Running}
+use Rattle.ds2760.specs.declared.progress.Copying.TheVariants.{Waiting, Running}
 use Rattle.ds2760.specs.declared.progress.Progress.{Progress}
 use Rattle.ds2760.specs.declared.progress.Progress.TheVariants.{Opcode, Address, Reading, Writing, Finished}
-use Rattle.ds2760.specs.Commands.{replaced, is_locked, recalled, locked, block_of, copy_asked, recall_asked, lock_asked, asked, next_of, taken, begun, started, slotted, after_reset, pushed}
+use Rattle.ds2760.specs.Commands.{replaced, is_locked, recalled, locked, within, block_of, copy_asked, recall_asked, lock_asked, asked, unread, empty, opcode_taken, address_taken, data_taken, next_of, taken, begun, started, slotted, after_reset, pushed}
 use Rattle.ds2760.specs.Map.{Place, protection, status, eeprom, feature, voltage, current, amount, temperature, block0, block1, sram, reserved, place_of, eec, written, written_at, writable}
 use Rattle.ds2760.specs.Soundness.{flag_of, copies, waits}
 use Rattle.ds2760.specs.States.{State, with_progress, with_copying, with_shadow}
@@ -49,17 +50,17 @@ quiet_shadow s x h l =
 
 -- ---- copies
 
-begun_copies : (l m : Bool) (c : Copying) → copies l m c ≡ true → copies l m (begun c) ≡ true
-begun_copies l m No h = refl
-begun_copies l m (Waiting block) h = and_from (not (flag_of l m block)) true h refl
-begun_copies l m (Running block ticks) h = h
+begun_copies : (l m : Bool) (c : Option Copying) → copies l m c ≡ true → copies l m (begun c) ≡ true
+begun_copies l m None h = refl
+begun_copies l m (Some (Waiting block)) h = and_from (not (flag_of l m block)) true h refl
+begun_copies l m (Some (Running block ticks)) h = h
 
-begun_waits : (c : Copying) → waits (begun c) ≡ false
-begun_waits No = refl
-begun_waits (Waiting block) = refl
-begun_waits (Running block ticks) = refl
+begun_waits : (c : Option Copying) → waits (begun c) ≡ false
+begun_waits None = refl
+begun_waits (Some (Waiting block)) = refl
+begun_waits (Some (Running block ticks)) = refl
 
-quiet_copying : (s : State) (c : Copying) → Sound s → copies s.locked0 s.locked1 c ≡ true → Quiet s (with_copying c s)
+quiet_copying : (s : State) (c : Option Copying) → Sound s → copies s.locked0 s.locked1 c ≡ true → Quiet s (with_copying c s)
 quiet_copying s c h k = record { sound = record { copies = k; shadow = h.shadow; eeprom = h.eeprom }; eeprom = refl; locked = λ b f. f }
 
 quiet_started : (s : State) → Sound s → Quiet s (started s)
@@ -81,10 +82,10 @@ quiet_recalled One s h =
     }
 
 -- with no copy under way any flags go together with it
-idle : (c : Copying) (l m : Bool) → waits c ≡ false → eec c ≡ false → copies l m c ≡ true
-idle No l m p q = refl
-idle (Waiting block) l m p q = absurd (both_ways true p refl)
-idle (Running block ticks) l m p q = absurd (both_ways true q refl)
+idle : (c : Option Copying) (l m : Bool) → waits c ≡ false → eec c ≡ false → copies l m c ≡ true
+idle None l m p q = refl
+idle (Some (Waiting block)) l m p q = absurd (both_ways true p refl)
+idle (Some (Running block ticks)) l m p q = absurd (both_ways true q refl)
 
 quiet_locked : (block : Block) (s : State) → Sound s → waits s.copying ≡ false → eec s.copying ≡ false → Quiet s (locked block s)
 quiet_locked Zero s h p q =
@@ -100,32 +101,43 @@ quiet_locked One s h p q =
       locked = λ b. elim b as (λ x. is_locked x s ≡ true → is_locked x (locked One s) ≡ true) [ Zero ↦ λ f. f | One ↦ λ f. refl ];
     }
 
-quiet_copy : (o : Option Block) (s : State) → Sound s → Quiet s (copy_asked o s)
-quiet_copy None s h = quiet_self s h
-quiet_copy (Some block) s h = by_test (writable (is_locked block s) s) refl
+quiet_copy : (block : Block) (s : State) → Sound s → Quiet s (copy_asked block s)
+quiet_copy block s h = by_test (writable (is_locked block s) s) refl
   where
-    by_test : (t : Bool) → writable (is_locked block s) s ≡ t → Quiet s (cond t (with_copying (Waiting block) s) s)
-    by_test true e = quiet_copying s (Waiting block) h (and_parts (not (is_locked block s)) (not (eec s.copying)) e).0
+    by_test : (t : Bool) → writable (is_locked block s) s ≡ t → Quiet s (cond t (with_copying (Some (Waiting block)) s) s)
+    by_test true e = quiet_copying s (Some (Waiting block)) h (and_parts (not (is_locked block s)) (not (eec s.copying)) e).0
     by_test false e = quiet_self s h
 
-quiet_recall : (o : Option Block) (s : State) → Sound s → Quiet s (recall_asked o s)
-quiet_recall None s h = quiet_self s h
-quiet_recall (Some block) s h = quiet_cond (eec s.copying) s s (recalled block s) (quiet_self s h) (quiet_recalled block s h)
+quiet_recall : (block : Block) (s : State) → Sound s → Quiet s (recall_asked block s)
+quiet_recall block s h = quiet_cond (eec s.copying) s s (recalled block s) (quiet_self s h) (quiet_recalled block s h)
 
-quiet_lock : (o : Option Block) (s : State) → Sound s → waits s.copying ≡ false → Quiet s (lock_asked o s)
-quiet_lock None s h p = quiet_self s h
-quiet_lock (Some block) s h p = by_test (s.lock && not (eec s.copying)) refl
+quiet_lock : (block : Block) (s : State) → Sound s → waits s.copying ≡ false → Quiet s (lock_asked block s)
+quiet_lock block s h p = by_test (s.lock && not (eec s.copying)) refl
   where
     by_test : (t : Bool) → (s.lock && not (eec s.copying)) ≡ t → Quiet s (cond t (locked block s) s)
     by_test true e = quiet_locked block s h p (not-true (eec s.copying) (and_parts s.lock (not (eec s.copying)) e).1)
     by_test false e = quiet_self s h
 
+-- what is quiet for each block is so at every address
+quiet_within : (f : Block → State → State) (o : Option Block) (s : State) → ((block : Block) → Quiet s (f block s)) → Sound s → Quiet s (within f o s)
+quiet_within f None s q h = quiet_self s h
+quiet_within f (Some block) s q h = q block
+
 quiet_asked : (c : Command) (a : ℕ) (s : State) → Sound s → waits s.copying ≡ false → Quiet s (asked c a s)
-quiet_asked Read a s h p = quiet_at s (Reading a 0 0) h
-quiet_asked Write a s h p = quiet_at s (Writing a 0 0) h
-quiet_asked Copy a s h p = let q = quiet_at s Finished h in quiet_then s (with_progress Finished s) _ q (quiet_copy (block_of a) (with_progress Finished s) q.sound)
-quiet_asked Recall a s h p = let q = quiet_at s Finished h in quiet_then s (with_progress Finished s) _ q (quiet_recall (block_of a) (with_progress Finished s) q.sound)
-quiet_asked Lock a s h p = let q = quiet_at s Finished h in quiet_then s (with_progress Finished s) _ q (quiet_lock (block_of a) (with_progress Finished s) q.sound p)
+quiet_asked c a s h p = by_command c
+  where
+    t : State
+    t = with_progress Finished s
+
+    ends : Quiet s t
+    ends = quiet_at s Finished h
+
+    by_command : (c : Command) → Quiet s (asked c a s)
+    by_command Read = quiet_at s (Reading (unread a)) h
+    by_command Write = quiet_at s (Writing a empty) h
+    by_command Copy = quiet_then s t _ ends (quiet_within copy_asked (block_of a) t (λ b. quiet_copy b t ends.sound) ends.sound)
+    by_command Recall = quiet_then s t _ ends (quiet_within recall_asked (block_of a) t (λ b. quiet_recall b t ends.sound) ends.sound)
+    by_command Lock = quiet_then s t _ ends (quiet_within lock_asked (block_of a) t (λ b. quiet_lock b t ends.sound p) ends.sound)
 
 -- ---- a byte written
 
@@ -157,15 +169,24 @@ quiet_written reserved a b s h = quiet_self s h
 -- ---- slots and resets
 
 quiet_taken : (p : Progress) (level : Bool) (s : State) → Sound s → waits s.copying ≡ false → Quiet s (taken p level s)
-quiet_taken (Opcode count bits) level s h w = quiet_at s _ h
-quiet_taken (Address command count bits) level s h w =
-    quiet_cond (ltb count 7) s _ _ (quiet_at s (Address command (count + 1) (pushed level bits)) h) (quiet_asked command (pushed level bits) s h w)
-quiet_taken (Reading a count byte) level s h w = quiet_at s _ h
-quiet_taken (Writing a count bits) level s h w =
-    let b = pushed level bits in
-    let q = quiet_written (place_of a) a b s h in
-    quiet_cond (ltb count 7) s _ _ (quiet_at s (Writing a (count + 1) b) h)
-    (quiet_then s (written a b s) _ q (quiet_at (written a b s) (Writing (next_of a) 0 0) q.sound))
+quiet_taken (Opcode partial) level s h w = opcode (pushed level partial)
+  where
+    opcode : (r : Result ℕ Partial) → Quiet s (opcode_taken r s)
+    opcode (Err more) = quiet_at s (Opcode more) h
+    opcode (Ok whole) = quiet_at s _ h
+quiet_taken (Address command partial) level s h w = address (pushed level partial)
+  where
+    address : (r : Result ℕ Partial) → Quiet s (address_taken command r s)
+    address (Err more) = quiet_at s (Address command more) h
+    address (Ok a) = quiet_asked command a s h w
+quiet_taken (Reading driven) level s h w = quiet_at s _ h
+quiet_taken (Writing a partial) level s h w = written_at_last (pushed level partial)
+  where
+    written_at_last : (r : Result ℕ Partial) → Quiet s (data_taken a r s)
+    written_at_last (Err more) = quiet_at s (Writing a more) h
+    written_at_last (Ok b) =
+        let q = quiet_written (place_of a) a b s h in
+        quiet_then s (written a b s) _ q (quiet_at (written a b s) (Writing (next_of a) empty) q.sound)
 quiet_taken Finished level s h w = quiet_self s h
 
 pub quiet_slot : (level : Bool) (s : State) → Sound s → Quiet s (slotted level s)
@@ -174,4 +195,4 @@ quiet_slot level s h =
     quiet_then s (started s) _ q (quiet_taken s.progress level (started s) q.sound (begun_waits s.copying))
 
 pub quiet_reset : (s : State) → Sound s → Quiet s (after_reset s)
-quiet_reset s h = let q = quiet_started s h in quiet_then s (started s) _ q (quiet_at (started s) (Opcode 0 0) q.sound)
+quiet_reset s h = let q = quiet_started s h in quiet_then s (started s) _ q (quiet_at (started s) (Opcode empty) q.sound)

@@ -1,15 +1,15 @@
 -- The law of runs: what a store keeps from one point of a run to any later one. Assumes nothing.
-use Rattle.std.proofs.Common.{◌≡◌, ℕ, ◌-◌, ◌≤◌, Bool, true, false, cond, not, ◌&&◌, eqb, leb, List, [], ◌∷◌, ◌++◌, length, take, drop, sym, refl, ap, ◌∙◌, subst, arith}
+use Rattle.std.proofs.Common.{◌≡◌, ℕ, ◌-◌, ◌≤◌, Bool, true, false, cond, not, ◌&&◌, eqb, leb, List, [], ◌∷◌, ◌++◌, length, take, drop, Some, None, Option, sym, refl, ap, ◌∙◌, subst, arith}
 use Rattle.std.proofs.lemmas.List.{take_at, drop_at, length-take-le}
 use Rattle.std.proofs.lemmas.Bool.{and_parts, and_from, both_ways, not-true, leb-true, le-leb, eqb-false}
 use Rattle.gauge.specs.declared.measure.Measurement.{Measurement}
 use Rattle.gauge.specs.Measures.{in_range}
-use Rattle.ds2760.specs.declared.progress.Block.{Block}
-use Rattle.ds2760.specs.declared.progress.Block.TheVariants.{Zero, One}
+use Rattle.ds2760.specs.declared.block.Block.{Block}
+use Rattle.ds2760.specs.declared.block.Block.TheVariants.{Zero, One}
 use Rattle.ds2760.specs.declared.progress.Copying.{Copying}
-use Rattle.ds2760.specs.declared.progress.Copying.TheVariants.{No, Waiting, Running}
+use Rattle.ds2760.specs.declared.progress.Copying.TheVariants.{Waiting, Running}
 use Rattle.ds2760.specs.Commands.{replaced, is_locked, copied, ticked_by, measured, made}
-use Rattle.ds2760.specs.Runs.{Call, slot, reset, tick, measure, does, run, slotless, half, Kept, Lawful, RunsAreLawful}
+use Rattle.ds2760.specs.Runs.{Call, slot, reset, tick, measure, does, run, slotless, half, Kept, Lawful, Follows, RunsAreLawful}
 use Rattle.ds2760.specs.Soundness.{copies}
 use Rattle.ds2760.specs.States.{State, with_copying}
 use Rattle.ds2760.proofs.Quiet.{Sound, Quiet, other, replaced_long, quiet_self, quiet_slot, quiet_reset}
@@ -37,7 +37,7 @@ half_kept One Zero s h n l = drop_at (take 16 s.shadow) (drop 16 s.eeprom) 16 (l
 half_kept One One s h n l = absurd (both_ways s.locked1 (not-true s.locked1 n) l)
 
 module _ (s : State) (h : Sound s) where
-  last_tick : (b : Block) → not (is_locked b s) ≡ true → Steps s (with_copying No (copied b s))
+  last_tick : (b : Block) → not (is_locked b s) ≡ true → Steps s (with_copying None (copied b s))
   last_tick b n =
       record {
         sound = record { copies = refl; shadow = h.shadow; eeprom = replaced_long b s.shadow s.eeprom h.shadow h.eeprom };
@@ -45,7 +45,7 @@ module _ (s : State) (h : Sound s) where
         locked = λ _ l. l;
       }
 
-  one_less : (b : Block) (ticks : ℕ) → copies s.locked0 s.locked1 (Running b ticks) ≡ true → eqb ticks 1 ≡ false → copies s.locked0 s.locked1 (Running b (ticks - 1)) ≡ true
+  one_less : (b : Block) (ticks : ℕ) → copies s.locked0 s.locked1 (Some (Running b ticks)) ≡ true → eqb ticks 1 ≡ false → copies s.locked0 s.locked1 (Some (Running b (ticks - 1))) ≡ true
   one_less b ticks k e =
       let parts = and_parts (not (is_locked b s)) (leb 1 ticks && leb ticks 10) k in
       let bounds = and_parts (leb 1 ticks) (leb ticks 10) parts.1 in
@@ -55,15 +55,15 @@ module _ (s : State) (h : Sound s) where
       and_from (not (is_locked b s)) (leb 1 (ticks - 1) && leb (ticks - 1) 10) parts.0
       (and_from (leb 1 (ticks - 1)) (leb (ticks - 1) 10) (le-leb 1 (ticks - 1) (omega (arith, no_one))) (le-leb (ticks - 1) 10 (omega arith)))
 
-  running : (b : Block) (ticks : ℕ) → copies s.locked0 s.locked1 (Running b ticks) ≡ true → (t : Bool) → eqb ticks 1 ≡ t → Steps s (cond t (with_copying No (copied b s)) (with_copying (Running b (ticks - 1)) s))
+  running : (b : Block) (ticks : ℕ) → copies s.locked0 s.locked1 (Some (Running b ticks)) ≡ true → (t : Bool) → eqb ticks 1 ≡ t → Steps s (cond t (with_copying None (copied b s)) (with_copying (Some (Running b (ticks - 1))) s))
   running b ticks k true e = last_tick b (and_parts (not (is_locked b s)) (leb 1 ticks && leb ticks 10) k).0
   running b ticks k false e =
       record { sound = record { copies = one_less b ticks k e; shadow = h.shadow; eeprom = h.eeprom }; eeprom = λ _ _. refl; locked = λ _ l. l }
 
-  tick_steps : (c : Copying) → copies s.locked0 s.locked1 c ≡ true → Steps s (ticked_by c s)
-  tick_steps No k = from_quiet s s (quiet_self s h)
-  tick_steps (Waiting b) k = from_quiet s s (quiet_self s h)
-  tick_steps (Running b ticks) k = running b ticks k (eqb ticks 1) refl
+  tick_steps : (c : Option Copying) → copies s.locked0 s.locked1 c ≡ true → Steps s (ticked_by c s)
+  tick_steps None k = from_quiet s s (quiet_self s h)
+  tick_steps (Some (Waiting b)) k = from_quiet s s (quiet_self s h)
+  tick_steps (Some (Running b ticks)) k = running b ticks k (eqb ticks 1) refl
 
   measure_steps : (m : Measurement) (t : Bool) → Steps s (cond t (measured m s) s)
   measure_steps m true = from_quiet s (measured m s) (other s h (measured m s) refl refl refl refl refl)
@@ -105,10 +105,10 @@ still_cond : (b : Bool) (s t u : State) → Still s t → Still s u → Still s 
 still_cond true s t u p q = p
 still_cond false s t u p q = q
 
-tick_still : (c : Copying) (s : State) → Still s (ticked_by c s)
-tick_still No s = still_self s
-tick_still (Waiting b) s = still_self s
-tick_still (Running b ticks) s =
+tick_still : (c : Option Copying) (s : State) → Still s (ticked_by c s)
+tick_still None s = still_self s
+tick_still (Some (Waiting b)) s = still_self s
+tick_still (Some (Running b ticks)) s =
     still_cond (eqb ticks 1) s _ _ (record { shadow = refl; sram = refl; flags = (refl, refl, refl) })
     (record { shadow = refl; sram = refl; flags = (refl, refl, refl) })
 
@@ -160,14 +160,18 @@ lawful bytes calls s l e =
           (run_kept later (run before (made bytes)) (run_steps before (made bytes) (made_sound bytes l)).sound);
     }
 
-pub runs_are_lawful : RunsAreLawful
-runs_are_lawful =
+-- a new store is lawful
+pub new_is_lawful : (bytes : List ℕ) (s : State) → length bytes ≡ 32 → s ≡ made bytes → Lawful bytes [] s
+new_is_lawful bytes s l e = lawful bytes [] s l (e ∙ sym (run_none (made bytes)))
+
+-- every call follows
+pub follows : (c : Call) (s t : State) → t ≡ does c s → Follows c s t
+follows c s t e =
     record {
-      makes = λ bytes s l e. lawful bytes [] s l (e ∙ sym (run_none (made bytes)));
-      follows = λ c s t e.
-          record {
-            lawful = λ bytes calls l r.
-                lawful bytes (calls ++ c ∷ []) t l
-                (e ∙ ap (does c) r ∙ sym (run_one c (run calls (made bytes))) ∙ sym (run_append calls (c ∷ []) (made bytes)));
-          };
+      lawful = λ bytes calls l r.
+          lawful bytes (calls ++ c ∷ []) t l
+          (e ∙ ap (does c) r ∙ sym (run_one c (run calls (made bytes))) ∙ sym (run_append calls (c ∷ []) (made bytes)));
     }
+
+pub runs_are_lawful : RunsAreLawful
+runs_are_lawful = record { makes = new_is_lawful; follows = follows }

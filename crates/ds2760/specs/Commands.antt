@@ -1,15 +1,19 @@
 -- What a chosen pack does with a slot, and what resets, ticks and measurements do. Assumes nothing.
-use Rattle.std.specs.Prelude.{ℕ, ◌+◌, ◌-◌, ◌/◌, ◌%◌, ◌^◌, min, Bool, true, false, cond, not, ◌&&◌, List, [], ◌∷◌, ◌++◌, take, drop, ℤ, pos, negsuc, ◌*ℤ◌, Some, None, Option, ◌==◌, bit_and, nat_lt, slice_index}
+use Rattle.std.specs.Prelude.{◌≡◌, ℕ, ◌+◌, ◌-◌, ◌/◌, ◌%◌, ◌^◌, min, Bool, true, false, cond, not, ◌&&◌, List, [], ◌∷◌, ◌++◌, take, drop, ℤ, pos, negsuc, ◌*ℤ◌, Some, None, Option, Ok, Err, Result, MatchResult, ◌==◌, bit_and, nat_lt, slice_index}
+use Rattle.std.specs.Option.{unwrap_or}
 use Rattle.gauge.specs.declared.measure.Measurement.{Measurement}
 use Rattle.gauge.specs.Charges.{whole, added}
 use Rattle.gauge.specs.Measures.{voltage_count, current_count, temperature_count}
 use Rattle.gauge.specs.Registers.{register}
-use Rattle.ds2760.specs.declared.progress.Block.{Block}
-use Rattle.ds2760.specs.declared.progress.Block.TheVariants.{Zero, One}
-use Rattle.ds2760.specs.declared.progress.Command.{Command}
-use Rattle.ds2760.specs.declared.progress.Command.TheVariants.{Read, Write, Copy, Recall, Lock}
+use Rattle.ds2760.specs.declared.block.Block.{Block}
+use Rattle.ds2760.specs.declared.block.Block.TheVariants.{Zero, One}
+use Rattle.ds2760.specs.declared.command.Command.{Command}
+use Rattle.ds2760.specs.declared.command.Command.TheVariants.{Read, Write, Copy, Recall, Lock}
+use Rattle.ds2760.specs.declared.command.UnknownOpcode.{UnknownOpcode}
+use Rattle.ds2760.specs.declared.partial.Partial.{Partial}
 use Rattle.ds2760.specs.declared.progress.Copying.{Copying}
-use Rattle.ds2760.specs.declared.progress.Copying.TheVariants.{No, Waiting, Running}
+use Rattle.ds2760.specs.declared.progress.Copying.TheVariants.{Waiting, Running}
+use Rattle.ds2760.specs.declared.progress.Driven.{Driven}
 use Rattle.ds2760.specs.declared.progress.Progress.{Progress}
 use Rattle.ds2760.specs.declared.progress.Progress.TheVariants.{Opcode, Address, Reading, Writing, Finished}
 use Rattle.ds2760.specs.Map.{Place, protection, status, eeprom, feature, voltage, current, amount, temperature, block0, block1, sram, reserved, place_of, eec, bit_of, held, written, writable}
@@ -64,28 +68,38 @@ abbrev pub locked : Block → State → State
 locked Zero s = with_locked0 true (with_lock false s)
 locked One s = with_locked1 true (with_lock false s)
 
--- ---- commands that act on a block; outside the blocks they do nothing
+-- ---- commands that act on a block
 
 -- a copy waits, unless the block is locked or a copy runs
-abbrev pub copy_asked : Option Block → State → State
-copy_asked None s = s
-copy_asked (Some block) s = cond (writable (is_locked block s) s) (with_copying (Waiting block) s) s
+abbrev pub copy_asked : Block → State → State
+copy_asked block s = cond (writable (is_locked block s) s) (with_copying (Some (Waiting block)) s) s
 
 -- a recall, unless a copy runs
-abbrev pub recall_asked : Option Block → State → State
-recall_asked None s = s
-recall_asked (Some block) s = cond (eec s.copying) s (recalled block s)
+abbrev pub recall_asked : Block → State → State
+recall_asked block s = cond (eec s.copying) s (recalled block s)
 
 -- a lock, if LOCK is 1 and no copy runs
-abbrev pub lock_asked : Option Block → State → State
-lock_asked None s = s
-lock_asked (Some block) s = cond (s.lock && not (eec s.copying)) (locked block s) s
+abbrev pub lock_asked : Block → State → State
+lock_asked block s = cond (s.lock && not (eec s.copying)) (locked block s) s
+
+-- outside the blocks they do nothing
+abbrev pub within : (Block → State → State) → Option Block → State → State
+within f None s = s
+within f (Some block) s = f block s
 
 -- ---- slots
 
--- a bit more of a byte: it enters at the top and moves the others down, so that after eight the first is the lowest
-abbrev pub pushed : Bool → ℕ → ℕ
-pushed level bits = bits / 2 + bit_of level 0x80
+-- a byte of which no bit has come
+abbrev pub empty : Partial
+empty = record { count = 0; bits = 0 }
+
+-- a bit enters at the top and moves the others down, so that after eight the first is the lowest
+abbrev pub shifted : Bool → ℕ → ℕ
+shifted level bits = bits / 2 + bit_of level 0x80
+
+-- a bit more of a byte: `Ok` and the whole byte, or `Err` and what there is of it so far
+abbrev pub pushed : Bool → Partial → Result ℕ Partial
+pushed level p = cond (nat_lt p.count 7) (Err (record { count = p.count + 1; bits = shifted level p.bits })) (Ok (shifted level p.bits))
 
 -- the command of an opcode
 abbrev pub command_of : ℕ → Option Command
@@ -96,58 +110,70 @@ command_of opcode =
     (cond (opcode == 0xb8) (Some Recall)
     (cond (opcode == 0x6a) (Some Lock) None))))
 
+-- the result is the command of an opcode, or an error with an opcode of none
+abbrev pub Decodes : ℕ → Result Command UnknownOpcode → Type 0
+Decodes opcode r = MatchResult r (λ command. command_of opcode ≡ Some command) (λ e. (command_of opcode ≡ None) × (e.0 ≡ opcode))
+
 -- what follows an opcode: an address, or nothing where it is unknown
 abbrev pub after_opcode : Option Command → Progress
 after_opcode None = Finished
-after_opcode (Some command) = Address command 0 0
+after_opcode (Some command) = Address command empty
+
+-- the byte at an address, before its first bit
+abbrev pub unread : ℕ → Driven
+unread a = record { address = a; count = 0; byte = None }
 
 -- what a command does at the last bit of its address
 abbrev pub asked : Command → ℕ → State → State
-asked Read a s = with_progress (Reading a 0 0) s
-asked Write a s = with_progress (Writing a 0 0) s
-asked Copy a s = copy_asked (block_of a) (with_progress Finished s)
-asked Recall a s = recall_asked (block_of a) (with_progress Finished s)
-asked Lock a s = lock_asked (block_of a) (with_progress Finished s)
+asked Read a s = with_progress (Reading (unread a)) s
+asked Write a s = with_progress (Writing a empty) s
+asked Copy a s = within copy_asked (block_of a) (with_progress Finished s)
+asked Recall a s = within recall_asked (block_of a) (with_progress Finished s)
+asked Lock a s = within lock_asked (block_of a) (with_progress Finished s)
 
 -- the address after a byte; it rises to one past FFh
 abbrev pub next_of : ℕ → ℕ
 next_of a = min (a + 1) 256
 
 -- the byte that is read: from its first bit's slot on it is fixed
-abbrev pub read_byte : ℕ → ℕ → ℕ → State → ℕ
-read_byte a count byte s = cond (count == 0) (held a s) byte
+abbrev pub read_byte : Driven → State → ℕ
+read_byte d s = unwrap_or d.byte (held d.address s)
 
--- a bit more of an opcode; `bits` has it already, here and below
-abbrev pub opcode_taken : ℕ → ℕ → State → State
-opcode_taken count bits s = with_progress (cond (nat_lt count 7) (Opcode (count + 1) bits) (after_opcode (command_of bits))) s
+-- a bit more of an opcode, or the whole of it, here and below
+abbrev pub opcode_taken : Result ℕ Partial → State → State
+opcode_taken (Err partial) s = with_progress (Opcode partial) s
+opcode_taken (Ok opcode) s = with_progress (after_opcode (command_of opcode)) s
 
 -- a bit more of an address
-abbrev pub address_taken : Command → ℕ → ℕ → State → State
-address_taken command count bits s = cond (nat_lt count 7) (with_progress (Address command (count + 1) bits) s) (asked command bits s)
+abbrev pub address_taken : Command → Result ℕ Partial → State → State
+address_taken command (Err partial) s = with_progress (Address command partial) s
+address_taken command (Ok a) s = asked command a s
 
 -- a bit of a byte read has passed
-abbrev pub read_on : ℕ → ℕ → ℕ → State → State
-read_on a count byte s =
-    with_progress (cond (nat_lt count 7) (Reading a (count + 1) (read_byte a count byte s)) (Reading (next_of a) 0 0)) s
+abbrev pub read_on : Driven → State → State
+read_on d s =
+    with_progress
+    (cond (nat_lt d.count 7) (Reading (record { address = d.address; count = d.count + 1; byte = Some (read_byte d s) })) (Reading (unread (next_of d.address))))
+    s
 
 -- a bit more of a byte to write; with its last bit it is written
-abbrev pub data_taken : ℕ → ℕ → ℕ → State → State
-data_taken a count bits s =
-    cond (nat_lt count 7) (with_progress (Writing a (count + 1) bits) s) (with_progress (Writing (next_of a) 0 0) (written a bits s))
+abbrev pub data_taken : ℕ → Result ℕ Partial → State → State
+data_taken a (Err partial) s = with_progress (Writing a partial) s
+data_taken a (Ok b) s = with_progress (Writing (next_of a) empty) (written a b s)
 
 -- a slot's level, by how far the command has come
 abbrev pub taken : Progress → Bool → State → State
-taken (Opcode count bits) level s = opcode_taken count (pushed level bits) s
-taken (Address command count bits) level s = address_taken command count (pushed level bits) s
-taken (Reading a count byte) level s = read_on a count byte s
-taken (Writing a count bits) level s = data_taken a count (pushed level bits) s
+taken (Opcode partial) level s = opcode_taken (pushed level partial) s
+taken (Address command partial) level s = address_taken command (pushed level partial) s
+taken (Reading driven) level s = read_on driven s
+taken (Writing a partial) level s = data_taken a (pushed level partial) s
 taken Finished level s = s
 
 -- a copy that waits begins: EEC is 1, and ten ticks are to come
-abbrev pub begun : Copying → Copying
-begun No = No
-begun (Waiting block) = Running block 10
-begun (Running block ticks) = Running block ticks
+abbrev pub begun : Option Copying → Option Copying
+begun None = None
+begun (Some (Waiting block)) = Some (Running block 10)
+begun (Some (Running block ticks)) = Some (Running block ticks)
 
 abbrev pub started : State → State
 started s = with_copying (begun s.copying) s
@@ -158,10 +184,10 @@ slotted level s = taken s.progress level (started s)
 
 -- what a chosen pack drives
 abbrev pub drives_by : Progress → State → Bool
-drives_by (Opcode count bits) s = true
-drives_by (Address command count bits) s = true
-drives_by (Reading a count byte) s = read_byte a count byte s / 2 ^ count % 2 == 1
-drives_by (Writing a count bits) s = true
+drives_by (Opcode partial) s = true
+drives_by (Address command partial) s = true
+drives_by (Reading d) s = read_byte d s / 2 ^ d.count % 2 == 1
+drives_by (Writing a partial) s = true
 drives_by Finished s = true
 
 abbrev pub drives : State → Bool
@@ -171,14 +197,14 @@ drives s = drives_by s.progress s
 
 -- the state after a reset: a waiting copy begins, and an opcode comes next
 abbrev pub after_reset : State → State
-after_reset s = with_progress (Opcode 0 0) (started s)
+after_reset s = with_progress (Opcode empty) (started s)
 
 -- a copy that runs has a tick less to come, and with the last one it is made
-abbrev pub ticked_by : Copying → State → State
-ticked_by No s = s
-ticked_by (Waiting block) s = s
-ticked_by (Running block ticks) s =
-    cond (ticks == 1) (with_copying No (copied block s)) (with_copying (Running block (ticks - 1)) s)
+abbrev pub ticked_by : Option Copying → State → State
+ticked_by None s = s
+ticked_by (Some (Waiting block)) s = s
+ticked_by (Some (Running block ticks)) s =
+    cond (ticks == 1) (with_copying None (copied block s)) (with_copying (Some (Running block (ticks - 1))) s)
 
 abbrev pub ticked : State → State
 ticked s = ticked_by s.copying s
@@ -213,7 +239,7 @@ made bytes =
       lock = false;
       locked0 = false;
       locked1 = false;
-      copying = No;
+      copying = None;
       voltage = 0 ∷ 0 ∷ [];
       current = 0 ∷ 0 ∷ [];
       temperature = 0 ∷ 0 ∷ [];
@@ -221,5 +247,5 @@ made bytes =
       shadow = bytes;
       eeprom = bytes;
       sram = 0 ∷ 0 ∷ 0 ∷ 0 ∷ 0 ∷ 0 ∷ 0 ∷ 0 ∷ 0 ∷ 0 ∷ 0 ∷ 0 ∷ 0 ∷ 0 ∷ 0 ∷ 0 ∷ [];
-      progress = Opcode 0 0;
+      progress = Opcode empty;
     }

@@ -1,7 +1,7 @@
 -- What writes, recalls and copies come to. Assumes nothing.
 use Rattle.std.specs.Prelude.{◌≡◌, ℕ, zero, suc, ◌<◌, true, false, cond, length, pos, negsuc, ◌≤ℤ◌, Some, ◌==◌, bit_and}
-use Rattle.ds2760.specs.declared.progress.Block.{Block}
-use Rattle.ds2760.specs.declared.progress.Command.TheVariants.{Copy, Recall}
+use Rattle.ds2760.specs.declared.block.Block.{Block}
+use Rattle.ds2760.specs.declared.command.Command.TheVariants.{Copy, Recall}
 use Rattle.ds2760.specs.Commands.{block_of, is_locked, asked, ticked}
 use Rattle.ds2760.specs.Map.{Place, protection, status, eeprom, feature, voltage, current, amount, temperature, block0, block1, sram, reserved, place_of, eec, flags, held, held_at, written, writable}
 use Rattle.ds2760.specs.Runs.{Call, slot, reset, tick, measure, does, half}

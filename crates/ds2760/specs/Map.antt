@@ -1,9 +1,9 @@
 -- The memory map: what stands at each address, and what a byte written there does. Assumes nothing.
-use Rattle.std.specs.Prelude.{ℕ, ◌+◌, ◌-◌, Bool, true, false, cond, not, ◌&&◌, List, [], ◌∷◌, ◌==◌, bit_and, nat_le, slice_index, slice_set}
+use Rattle.std.specs.Prelude.{ℕ, ◌+◌, ◌-◌, Bool, true, false, cond, not, ◌&&◌, List, [], ◌∷◌, None, Some, Option, ◌==◌, bit_and, nat_le, slice_index, slice_set}
 use Rattle.gauge.specs.Charges.{whole}
 use Rattle.gauge.specs.Registers.{register, decoded}
 use Rattle.ds2760.specs.declared.progress.Copying.{Copying}
-use Rattle.ds2760.specs.declared.progress.Copying.TheVariants.{No, Waiting, Running}
+use Rattle.ds2760.specs.declared.progress.Copying.TheVariants.{Waiting, Running}
 use Rattle.ds2760.specs.States.{State, with_protection, with_lock, with_charge, with_shadow, with_sram}
 
 -- what can stand at an address
@@ -40,10 +40,10 @@ abbrev pub place_of : ℕ → Place
 place_of a = place_in rows a
 
 -- EEC: a copy runs
-abbrev pub eec : Copying → Bool
-eec No = false
-eec (Waiting block) = false
-eec (Running block ticks) = true
+abbrev pub eec : Option Copying → Bool
+eec None = false
+eec (Some (Waiting block)) = false
+eec (Some (Running block ticks)) = true
 
 -- a flag as the bit with this weight
 abbrev pub bit_of : Bool → ℕ → ℕ

@@ -2,8 +2,8 @@
 use Rattle.std.specs.Prelude.{◌≡◌, ℕ, Bool, true, false, cond, List, [], ◌∷◌, ◌++◌, length, take, drop}
 use Rattle.gauge.specs.declared.measure.Measurement.{Measurement}
 use Rattle.gauge.specs.Measures.{in_range}
-use Rattle.ds2760.specs.declared.progress.Block.{Block}
-use Rattle.ds2760.specs.declared.progress.Block.TheVariants.{Zero, One}
+use Rattle.ds2760.specs.declared.block.Block.{Block}
+use Rattle.ds2760.specs.declared.block.Block.TheVariants.{Zero, One}
 use Rattle.ds2760.specs.Commands.{is_locked, slotted, after_reset, ticked, measured, made}
 use Rattle.ds2760.specs.States.{State}
 

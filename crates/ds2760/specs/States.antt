@@ -1,5 +1,5 @@
 -- What a store holds. Assumes nothing.
-use Rattle.std.specs.Prelude.{ℕ, Bool, List}
+use Rattle.std.specs.Prelude.{ℕ, Bool, List, Option}
 use Rattle.gauge.specs.Charges.{Charge}
 use Rattle.ds2760.specs.declared.progress.Copying.{Copying}
 use Rattle.ds2760.specs.declared.progress.Progress.{Progress}
@@ -15,8 +15,8 @@ pub record State : Type 0 where
   pub locked0 : Bool
   -- BL1: block 1 is locked
   pub locked1 : Bool
-  -- the copy that waits or runs
-  pub copying : Copying
+  -- the copy that waits or runs, if one does
+  pub copying : Option Copying
   -- 0Ch and 0Dh
   pub voltage : List ℕ
   -- 0Eh and 0Fh
@@ -50,7 +50,7 @@ with_locked0 x s = record { protection = s.protection; status = s.status; lock =
 abbrev pub with_locked1 : Bool → State → State
 with_locked1 x s = record { protection = s.protection; status = s.status; lock = s.lock; locked0 = s.locked0; locked1 = x; copying = s.copying; voltage = s.voltage; current = s.current; temperature = s.temperature; charge = s.charge; shadow = s.shadow; eeprom = s.eeprom; sram = s.sram; progress = s.progress }
 
-abbrev pub with_copying : Copying → State → State
+abbrev pub with_copying : Option Copying → State → State
 with_copying x s = record { protection = s.protection; status = s.status; lock = s.lock; locked0 = s.locked0; locked1 = s.locked1; copying = x; voltage = s.voltage; current = s.current; temperature = s.temperature; charge = s.charge; shadow = s.shadow; eeprom = s.eeprom; sram = s.sram; progress = s.progress }
 
 abbrev pub with_charge : Charge → State → State

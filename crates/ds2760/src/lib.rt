@@ -1,11 +1,13 @@
 // A simulated DS2760's memory: what a chosen pack does with slots, ticks and measurements.
 #![tactic(auto)]
 
+mod block;
 mod blocks;
+mod command;
 mod commands;
-mod laws;
 mod measure;
 mod memory;
+mod partial;
 mod progress;
 mod store;
 

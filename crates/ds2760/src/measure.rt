@@ -10,11 +10,11 @@ use gauge::{Bias, Counts, Measurement, Refusal};
 
 impl Store {
     // Takes a measurement, or refuses it and leaves all as it was.
+    #[tactic(auto, using(crate::proofs::Runs::follows))]
     pub fn measure(&mut self, measurement: Measurement) -> Result<(), Refusal>
         ensures cases { MatchResult result (λ _. (in_range measurement ≡ true) × (state_of self.new ≡ measured measurement (state_of self.old))) (λ _. (in_range measurement ≡ false) × (state_of self.new ≡ state_of self.old)) }
         ensures lawful { Follows (measure measurement) (state_of self.old) (state_of self.new) }
     {
-        self.laws();
         let counts = measurement.counts(self.bias())?;
         self.voltage = counts.voltage_register();
         self.current = counts.current_register();

@@ -1,10 +1,12 @@
 // What stands at each address.
 ghost use Rattle.std.specs.Prelude.{◌≡◌};
 ghost use Rattle.ds2760.specs.Map.{held, written, eec, flags};
+ghost use Rattle.ds2760.specs.Effects.{Whole};
 ghost use Rattle.ds2760.specs.Meaning.{state_of};
 
 use crate::progress::Copying;
 use crate::store::Store;
+use gauge::Half;
 
 impl Store {
     // The byte at an address. Reserved addresses have FFh, and so has what lies past FFh.
@@ -33,12 +35,12 @@ impl Store {
         match address {
             0x00 => self.protection = byte & 0x03,
             0x07 => self.lock = byte & 0x40 == 0x40,
-            0x10 => self.accumulator.write_high(byte),
-            0x11 => self.accumulator.write_low(byte),
-            0x20..=0x2f if !self.locked_0 && !self.is_copying() => {
+            0x10 => self.accumulator.write(Half::High, byte),
+            0x11 => self.accumulator.write(Half::Low, byte),
+            0x20..=0x2f if !self.locks.zero && !self.is_copying() => {
                 self.shadow[address as usize - 0x20] = byte
             }
-            0x30..=0x3f if !self.locked_1 && !self.is_copying() => {
+            0x30..=0x3f if !self.locks.one && !self.is_copying() => {
                 self.shadow[address as usize - 0x20] = byte
             }
             0x80..=0x8f => self.sram[address as usize - 0x80] = byte,
@@ -46,11 +48,19 @@ impl Store {
         }
     }
 
+    // Does nothing: a caller knows that the memory is whole. A function that changes the store
+    // learns it only from a call by `&self`.
+    pub(crate) fn whole(&self)
+        ensures { Whole (state_of self.now) }
+    {
+        let _amount = self.accumulator.amount();
+    }
+
     // EEC: whether a copy runs.
     pub(crate) fn is_copying(&self) -> bool
         ensures { result ≡ eec (state_of self.now).copying }
     {
-        matches!(self.copying, Copying::Running { .. })
+        matches!(self.copying, Some(Copying::Running { .. }))
     }
 
     // 07h.
@@ -64,10 +74,10 @@ impl Store {
         if self.lock {
             flags += 0x40;
         }
-        if self.locked_1 {
+        if self.locks.one {
             flags += 0x02;
         }
-        if self.locked_0 {
+        if self.locks.zero {
             flags += 0x01;
         }
         flags

@@ -1,59 +1,51 @@
 // How far a store has come with a command, and with a copy.
+ghost use Rattle.std.specs.Prelude.{◌≡◌};
+ghost use Rattle.ds2760.specs.Commands.{unread};
 
-// Sixteen bytes of EEPROM, with their shadow.
-#[derive(Clone, Copy)]
-pub enum Block {
-    // 20h to 2Fh
-    Zero,
-    // 30h to 3Fh
-    One,
+use crate::block::Block;
+use crate::command::Command;
+use crate::partial::Partial;
+
+// A byte that is read: its address, how many of its bits have passed, and from its first bit on the
+// byte itself, which is fixed then.
+#[derive(Clone, Copy, PartialEq, Eq, Debug)]
+pub struct Driven {
+    pub(crate) address: u16,
+    pub(crate) count: u8,
+    pub(crate) byte: Option<u8>,
 }
 
-// What an opcode asks for.
-#[derive(Clone, Copy)]
-pub enum Command {
-    Read,
-    Write,
-    Copy,
-    Recall,
-    Lock,
+impl Driven {
+    // The byte at an address, before its first bit.
+    pub(crate) fn new(address: u16) -> Driven
+        ensures { result ≡ unread address }
+    {
+        Driven {
+            address,
+            count: 0,
+            byte: None,
+        }
+    }
 }
 
-// What a chosen pack does with the next slot. `count` is how many bits have come of the byte under
-// way, and `bits` has these at its top.
-#[derive(Clone, Copy)]
+// What a chosen pack does with the next slot.
+#[derive(Clone, Copy, PartialEq, Eq, Debug)]
 pub enum Progress {
     // takes an opcode
-    Opcode {
-        count: u8,
-        bits: u8,
-    },
+    Opcode(Partial),
     // takes the address byte of a command
-    Address {
-        command: Command,
-        count: u8,
-        bits: u8,
-    },
-    // drives the byte at an address, which is fixed from its first bit on
-    Reading {
-        address: u16,
-        count: u8,
-        byte: u8,
-    },
+    Address(Command, Partial),
+    // drives the byte at an address
+    Reading(Driven),
     // takes the byte for an address
-    Writing {
-        address: u16,
-        count: u8,
-        bits: u8,
-    },
+    Writing(u16, Partial),
     // ignores slots
     Finished,
 }
 
 // A copy of a block's shadow to its EEPROM.
-#[derive(Clone, Copy)]
+#[derive(Clone, Copy, PartialEq, Eq, Debug)]
 pub enum Copying {
-    No,
     // it starts at the next slot or reset
     Waiting(Block),
     // it ends after so many ticks; EEC is 1

@@ -1,5 +1,5 @@
 use ds2760::Store;
-use gauge::{Accumulator, Bias, Measurement, Refusal, worked_cases};
+use gauge::{Accumulator, Bias, Half, Measurement, Refusal, worked_cases};
 use std::test::Fail;
 
 const READ: u8 = 0x69;
@@ -106,9 +106,9 @@ fn accumulator(rt: HostRuntime) -> Result<(), Fail> {
         a.add(&high);
     }
     assert!(rt; a.amount() == 1 && a.residue() == 180);
-    a.write_low(0x05);
+    a.write(Half::Low, 0x05);
     assert!(rt; a.amount() == 5 && a.residue() == 0);
-    a.write_high(0xff);
+    a.write(Half::High, 0xff);
     assert!(rt; a.amount() == -251);
     let Ok(low) = reading(0, -1, 0).counts(Bias(0)) else {
         return Err(Fail::new("refused"));

@@ -1,2 +1,4 @@
 pub mod Totals
 pub mod Floors
+pub mod Shifts
+pub mod Casts

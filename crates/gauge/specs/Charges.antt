@@ -1,7 +1,10 @@
 -- What the current accumulator holds, and what a count adds to it. Assumes nothing.
-use Rattle.std.specs.Prelude.{cond, ℤ, pos, negsuc, ◌+ℤ◌, ◌-ℤ◌, ◌*ℤ◌}
+use Rattle.std.specs.Prelude.{ℕ, cond, ℤ, pos, negsuc, ◌+ℤ◌, ◌-ℤ◌, ◌*ℤ◌, slice_index}
 use Rattle.std.specs.Int.Signed.{lt_z}
 use Rattle.gauge.specs.declared.accumulator.Accumulator.{Accumulator}
+use Rattle.gauge.specs.declared.accumulator.Half.{Half}
+use Rattle.gauge.specs.declared.accumulator.Half.TheVariants.{High, Low}
+use Rattle.gauge.specs.Registers.{register, decoded}
 use Rattle.gauge.specs.Measures.{limited}
 
 -- an amount, and a residue from 0 to 179,999
@@ -16,6 +19,11 @@ charge_of a = record { amount = a.amount; residue = pos a.residue }
 -- the charge with the amount a and no residue
 abbrev pub whole : ℤ → Charge
 whole a = record { amount = a; residue = pos 0 }
+
+-- the amount a with b for one of its bytes
+abbrev pub with_half : Half → ℕ → ℤ → ℤ
+with_half High b a = decoded b (slice_index (register a) 1)
+with_half Low b a = decoded (slice_index (register a) 0) b
 
 -- a residue that is too large raises the amount by one; at the highest amount it stays as large as it can be
 abbrev pub risen : ℤ → ℤ → Charge

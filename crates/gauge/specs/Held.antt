@@ -6,15 +6,15 @@ use Rattle.gauge.specs.Measures.{voltage_count, current_count, temperature_count
 
 -- the count of the cell voltage
 abbrev pub voltage_of : Counts → ℤ
-voltage_of c = c.voltage
+voltage_of c = c.voltage.units
 
 -- the count of the current, less the bias
 abbrev pub current_of : Counts → ℤ
-current_of c = c.current
+current_of c = c.current.units
 
 -- the count of the temperature
 abbrev pub temperature_of : Counts → ℤ
-temperature_of c = c.temperature
+temperature_of c = c.temperature.units
 
 -- c has the counts of m, with the bias subtracted from the current
 pub record Counted (m : Measurement) (bias : ℤ) (c : Counts) : Type 0 where

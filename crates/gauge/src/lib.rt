@@ -5,11 +5,12 @@ mod accumulate;
 mod accumulator;
 mod cases;
 mod charge;
+mod count;
 mod counts;
 mod measure;
 mod registers;
 
-pub use accumulator::Accumulator;
+pub use accumulator::{Accumulator, Half};
 pub use cases::worked_cases;
 pub use counts::Counts;
 pub use measure::{Bias, Measurement, Refusal};

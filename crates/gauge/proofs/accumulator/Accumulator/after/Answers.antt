@@ -1,27 +1,21 @@
-use Rattle.std.proofs.Common.{◌≡◌, ℤ, pos, negsuc, ◌+ℤ◌, ◌*ℤ◌, ◌≤ℤ◌, sym, ap, ◌∙◌, arith, w16, w32, SFits, to_z, of_z, rules}
-use lib.IntN.{+ℤ_assoc}
-use Rattle.std.proofs.lemmas.Int.{ints, to_z-of_z}
-use Rattle.gauge.specs.Charges.{charge_of, settled, total, capped}
-use Rattle.gauge.proofs.Totals.{settled_held}
+use Rattle.std.proofs.Common.{◌≡◌, pos, ◌+ℤ◌, ◌*ℤ◌, ◌∙◌, ap, arith, w64, to_z, of_z}
+use Rattle.std.proofs.lemmas.Int.{ints}
+use Rattle.gauge.specs.Charges.{charge_of, total, capped}
+use Rattle.gauge.proofs.Totals.{parts_added}
 use Rattle.gauge.proofs.accumulator.Accumulator.after.Goals as goal
 
 pub returns : goal.returns
 returns c =
-    let a = c.args.self.now.amount in
-    let r = pos c.args.self.now.residue in
-    let n = c.args.counts.now.current in
-    let fits : SFits w16 a = search rules in
-    let low : negsuc 32767 ≤ℤ a = omega (arith, ints) in
-    let high : a ≤ℤ pos 32767 = omega (arith, ints) in
-    let a-is : to_z w16 (of_z w16 a) ≡ a = to_z-of_z w16 a fits in
-    let s = c.sum.result in
-    let s-is : to_z w32 (of_z w32 s) ≡ s = omega (arith, ints, c.sum.ensures.low, c.sum.ensures.high) in
-    let step : charge_of c.settled.result ≡ settled a s = c.settled.ensures ∙ (λ i. settled (a-is i) (s-is i)) in
+    let p = charge_of c.args.self.now in
+    let q = charge_of c.of.result in
+    let n = c.args.counts.now.current.units in
+    let t = c.total.result in
+    let u = c.from.result in
+    let k = c.total.ensures in
+    let u-is : u ≡ n = c.from.ensures ∙ omega (arith, ints) in
+    let parts : to_z w64 (of_z w64 (to_z w64 (of_z w64 t) +ℤ to_z w64 (of_z w64 (pos 11 *ℤ to_z w64 (of_z w64 u))))) ≡ total p +ℤ pos 11 *ℤ n = omega (arith, ints, k.value, k.low, k.high, u-is) in
+    let is = c.of.ensures ∙ ap capped parts in
     record {
-      step = step ∙ ap (settled a) c.sum.ensures.value;
-      total =
-          ap total step
-          ∙ settled_held a s low high c.sum.ensures.low c.sum.ensures.high
-          ∙ ap (λ (z : ℤ). capped (pos 180000 *ℤ a +ℤ z)) c.sum.ensures.value
-          ∙ ap capped (sym (+ℤ_assoc (pos 180000 *ℤ a) r (pos 11 *ℤ n)));
+      step = parts_added p q n (omega (arith, ints, k.value, k.low)) (omega (arith, ints, k.value, k.high)) (omega (arith, ints)) (omega (arith, ints)) (omega (arith, ints)) (omega (arith, ints)) (omega (arith, ints)) (omega (arith, ints)) is;
+      total = is;
     }

@@ -1,8 +1,0 @@
-use Rattle.std.proofs.Common.{arith, rules}
-use Rattle.std.proofs.lemmas.Int.{to_z-of_z}
-use Rattle.gauge.specs.Measures.{current_count}
-use Rattle.gauge.proofs.measure.current_count.Goals as goal
-
-pub returns : goal.returns
-unfolding current_count
-returns c = record { value = grind (arith, to_z-of_z); low = search rules; high = search rules }
