@@ -4,7 +4,6 @@ use Rattle.std.specs.List.{range_with_len}
 use Rattle.address.specs.Parts.{number, received}
 use Rattle.rackfile.specs.declared.Entry.{Entry}
 use Rattle.rackfile.specs.declared.RackFile.{RackFile}
-use Rattle.rackfile.specs.declared.layout.Sizes.{Sizes}
 
 -- how many entries the file says it has: its first byte
 abbrev pub count : List ℕ → ℕ
@@ -21,11 +20,11 @@ pub record WellFormed (f : List ℕ) : Type 0 where
   pub short : width f ≤ 12
   pub whole : length f ≡ 2 + count f * (8 + width f)
 
--- the file is well-formed, and these are its sizes
-pub record Measured (f : List ℕ) (s : Sizes) : Type 0 where
+-- the file is well-formed, with n entries and names of w bytes
+pub record Measured (f : List ℕ) (n w : ℕ) : Type 0 where
   pub form : WellFormed f
-  pub counted : s.count ≡ count f
-  pub wide : s.width ≡ width f
+  pub counted : n ≡ count f
+  pub wide : w ≡ width f
 
 -- the address of entry i: the addresses begin behind the two sizes
 abbrev pub address_at : List ℕ → ℕ → ℕ

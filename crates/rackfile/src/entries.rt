@@ -1,40 +1,46 @@
 // The entries of a sound rack file.
-ghost use Rattle.std.specs.Prelude.{◌≡◌, ◌<◌, map, IfOk};
-ghost use Rattle.rackfile.specs.Files.{Measured, entry_in, entries_in, listed};
-ghost use Rattle.rackfile.specs.Refusals.{Sound};
+ghost use Rattle.std.specs.Prelude.{◌≡◌, map, IfOk, IsUtf8};
+ghost use Rattle.address.specs.Parts.{number};
+ghost use Rattle.rackfile.specs.Files.{entries_in, listed};
+ghost use Rattle.rackfile.specs.Refusals.{Sound, Holds};
 
-use crate::Entry;
-use crate::layout::{Sizes, address_at, name_at};
+use crate::layout::{Layout, RawEntry};
+use crate::{Entry, RackFile};
 use std::alloc::{AllocError, Global};
 
-// One entry.
-fn read_entry(heap: Global, bytes: &[u8], sizes: Sizes, index: usize) -> Result<Entry, AllocError>
-    requires sizes { Measured bytes.now sizes }
-    requires sound { Sound bytes.now }
-    requires within { index < sizes.count }
-    ensures { IfOk result (λ e. listed e ≡ entry_in bytes.now index) }
-{
-    // A sound file's names are ASCII, so nothing is lost.
-    let name = String::from_utf8_lossy(heap, name_at(bytes, sizes, index))?;
-    Ok(Entry {
-        address: address_at(bytes, index),
-        name,
-    })
+impl Layout<'_> {
+    // The rack file that a sound file is. Sound is what `check` finds of a layout, and no layout by itself.
+    pub(crate) fn file(&self, heap: Global) -> Result<RackFile, AllocError>
+        requires { Sound self.now }
+        ensures { IfOk result (λ file. Holds self.now file) }
+    {
+        Ok(RackFile {
+            width: self.width,
+            entries: self.entries(heap)?,
+        })
+    }
+
+    // All entries, in file order.
+    fn entries(&self, heap: Global) -> Result<Vec<Entry>, AllocError>
+        requires { Sound self.now }
+        ensures { IfOk result (λ v. map listed v.items ≡ entries_in self.now) }
+    {
+        (0..self.count)
+            .map(|index| self.entry(index).read(heap))
+            .try_collect(heap)
+    }
 }
 
-// All entries, in file order.
-pub(crate) fn read_entries(
-    heap: Global,
-    bytes: &[u8],
-    sizes: Sizes,
-) -> Result<Vec<Entry>, AllocError>
-    requires sizes { Measured bytes.now sizes }
-    requires sound { Sound bytes.now }
-    ensures { IfOk result (λ v. map listed v.items ≡ entries_in bytes.now) }
-{
-    let mut entries = Vec::with_capacity(heap, sizes.count)?;
-    for index in 0..sizes.count {
-        entries.push(read_entry(heap, bytes, sizes, index)?)?;
+impl RawEntry<'_> {
+    // The entry, with its name as text.
+    fn read(&self, heap: Global) -> Result<Entry, AllocError>
+        requires { IsUtf8 self.now.name.now }
+        ensures { IfOk result (λ e. listed e ≡ record { address = number self.now.address; name = self.now.name.now }) }
+    {
+        let name = str::from_utf8(self.name).unwrap();
+        Ok(Entry {
+            address: self.address,
+            name: name.to_string(heap)?,
+        })
     }
-    Ok(entries)
 }

@@ -1,59 +1,78 @@
 // Where a rack file has what.
-ghost use Rattle.std.specs.Prelude.{◌≡◌, ◌+◌, ◌*◌, ◌<◌, ◌≤◌, length};
-ghost use Rattle.std.specs.Option as options;
+ghost use Rattle.std.specs.Prelude.{◌≡◌, ◌<◌, MatchResult};
 ghost use Rattle.address.specs.Parts.{number};
-ghost use Rattle.rackfile.specs.Files.{WellFormed, Measured, address_at, name_at};
+ghost use Rattle.rackfile.specs.Files.{count, address_at, name_at};
+ghost use Rattle.rackfile.specs.Refusals.{First};
 
+use crate::Refusal;
 use address::Address;
-
-// How many entries there are, and how many bytes a name has.
-#[derive(Clone, Copy)]
-pub(crate) struct Sizes {
-    pub(crate) count: usize,
-    pub(crate) width: usize,
-}
+use std::marker::Model;
 
 const LARGEST_COUNT: usize = 128;
 
 const LARGEST_WIDTH: usize = 12;
 
-impl Sizes {
-    // The sizes of a well-formed file, or none.
-    pub(crate) fn read(bytes: &[u8]) -> Option<Sizes>
-        ensures { options.MatchOption result (WellFormed bytes.now → ⊥) (Measured bytes.now) }
+// A well-formed file, with how many entries there are and how many bytes a name has.
+#[derive(Drop)]
+pub(crate) struct Layout<'a> {
+    bytes: &'a [u8],
+    pub(crate) count: usize,
+    pub(crate) width: usize,
+}
+
+impl<'a> Model for Layout<'a> {
+    ghost use Rattle.std.specs.Prelude.{ℕ, List};
+    ghost use Rattle.rackfile.specs.Files.{Measured};
+
+    ghost Value = { List ℕ };
+
+    ghost view = { λ l. l.bytes.now };
+
+    ghost invariant = { λ l. Measured l.bytes.now l.count l.width };
+}
+
+// An entry whose name is still in the file's bytes.
+#[derive(Clone, Copy)]
+pub(crate) struct RawEntry<'a> {
+    pub(crate) address: Address,
+    pub(crate) name: &'a [u8],
+}
+
+impl<'a> Layout<'a> {
+    // The layout of a well-formed file.
+    pub(crate) fn read(bytes: &'a [u8]) -> Result<Layout<'a>, Refusal>
+        ensures { MatchResult result (λ l. l ≡ bytes.now) (λ e. First bytes.now e) }
     {
-        if bytes.len() < 2 {
-            return None;
+        let &[count, width, ..] = bytes else {
+            return Err(Refusal::Malformed);
+        };
+        let (count, width) = (usize::from(count), usize::from(width));
+        if count > LARGEST_COUNT
+            || !(1..=LARGEST_WIDTH).contains(&width)
+            || bytes.len() != 2 + count * (8 + width)
+        {
+            return Err(Refusal::Malformed);
         }
-        let count = bytes[0] as usize;
-        let width = bytes[1] as usize;
-        if count > LARGEST_COUNT || width < 1 || width > LARGEST_WIDTH {
-            return None;
-        }
-        if bytes.len() != 2 + count * (8 + width) {
-            return None;
-        }
-        Some(Sizes { count, width })
+        Ok(Layout {
+            bytes,
+            count,
+            width,
+        })
     }
-}
 
-// The address of an entry.
-pub(crate) fn address_at(bytes: &[u8], index: usize) -> Address
-    requires { 2 + 8 * index + 8 ≤ length bytes.now }
-    ensures { number result ≡ address_at bytes.now index }
-{
-    let at = 2 + 8 * index;
-    let mut sent = [0; 8];
-    sent.copy_from_slice(&bytes[at..at + 8]);
-    Address::from_bytes(sent)
-}
-
-// The name of an entry.
-pub(crate) fn name_at(bytes: &[u8], sizes: Sizes, index: usize) -> &[u8]
-    requires sizes { Measured bytes.now sizes }
-    requires within { index < sizes.count }
-    ensures { result.now ≡ name_at bytes.now index }
-{
-    let at = 2 + 8 * sizes.count + sizes.width * index;
-    &bytes[at..at + sizes.width]
+    // An entry, as the file has it. It is taken by its place, as a refusal names it: what an
+    // iterator gives would need a clause that says its place.
+    #[tactic(auto, using(crate::proofs::Places::address_chunk))]
+    pub(crate) fn entry(&self, index: usize) -> RawEntry<'a>
+        requires { index < count self.now }
+        ensures address { number result.address ≡ address_at self.now index }
+        ensures name { result.name.now ≡ name_at self.now index }
+    {
+        let (addresses, _) = self.bytes[2..].as_chunks();
+        let at = 2 + 8 * self.count + self.width * index;
+        RawEntry {
+            address: Address::from_bytes(addresses[index]),
+            name: &self.bytes[at..at + self.width],
+        }
+    }
 }

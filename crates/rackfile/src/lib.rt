@@ -3,13 +3,11 @@
 
 ghost use Rattle.std.specs.Prelude.{◌≡◌, map, MatchResult};
 ghost use Rattle.rackfile.specs.declared.Refusal.TheVariants.{Memory};
-ghost use Rattle.rackfile.specs.Files.{Measured, listed, width_of, entries_of};
+ghost use Rattle.rackfile.specs.Files.{listed, width_of, entries_of};
 ghost use Rattle.rackfile.specs.Refusals.{number_of, First, OneFirst, Refused, Sound, Holds};
 
 use address::Address;
-use entries::read_entries;
-use flaws::check_entries;
-use layout::Sizes;
+use layout::Layout;
 use std::alloc::{AllocError, Global};
 
 mod entries;
@@ -37,11 +35,11 @@ pub struct RackFile {
 #[derive(Clone, Copy, PartialEq, Eq, Debug)]
 pub enum Flaw {
     // its check byte is not that of its first seven bytes
-    WrongCheckByte,
+    WrongCheckByte = 6,
     // an earlier entry has the address
-    RepeatedAddress,
+    RepeatedAddress = 14,
     // a byte of its name is outside 20h to 7Eh
-    UnprintableName,
+    UnprintableName = 13,
 }
 
 // Why a rack file is not read.
@@ -74,12 +72,7 @@ impl RackFile {
         ensures cases { MatchResult result (λ file. Holds bytes.now file) (λ e. Refused bytes.now e) }
         ensures law { OneFirst bytes.now }
     {
-        let sizes = checked(bytes)?;
-        let entries = read_entries(heap, bytes, sizes)?;
-        Ok(RackFile {
-            width: sizes.width,
-            entries,
-        })
+        Ok(checked(bytes)?.file(heap)?)
     }
 
     // How many bytes each name has.
@@ -93,20 +86,18 @@ impl RackFile {
     pub fn entries(&self) -> &[Entry]
         ensures { map listed result.now ≡ entries_of self.now }
     {
-        self.entries.as_slice()
+        &self.entries
     }
 }
 
-// The sizes of a file that is sound, or the first refusal.
-fn checked(bytes: &[u8]) -> Result<Sizes, Refusal>
-    ensures cases { MatchResult result (λ s. Measured bytes.now s × Sound bytes.now) (λ e. First bytes.now e) }
+// The layout of a sound file, or the first refusal.
+fn checked(bytes: &[u8]) -> Result<Layout<'_>, Refusal>
+    ensures cases { MatchResult result (λ l. (l ≡ bytes.now) × Sound bytes.now) (λ e. First bytes.now e) }
     ensures law { OneFirst bytes.now }
 {
-    let Some(sizes) = Sizes::read(bytes) else {
-        return Err(Refusal::Malformed);
-    };
-    check_entries(bytes, sizes)?;
-    Ok(sizes)
+    let layout = Layout::read(bytes)?;
+    layout.check()?;
+    Ok(layout)
 }
 
 impl From<AllocError> for Refusal {
