@@ -1,7 +1,11 @@
 -- Seats of two lines, and seats that are off. Assumes nothing.
-use Rattle.std.proofs.Common.{◌≡◌, ℕ, Bool, true, false, ◌&&◌, ◌||◌, List, [], ◌∷◌, ◌++◌, map, refl, ap, ◌∙◌, arith}
-use Rattle.line.specs.declared.presence.Presence.TheVariants.{Present, Empty}
-use Rattle.line.specs.Seats.{Seat, drives_seat, drives_line, takes_seat, reset_seat, off, occupied, presence}
+use Rattle.std.proofs.Common.{◌≡◌, Bool, true, false, ◌&&◌, ◌||◌, List, [], ◌∷◌, ◌++◌, map, sym, refl, ap, ◌∙◌}
+use Rattle.std.proofs.lemmas.Bool.{both_ways}
+use Rattle.line.specs.declared.presence.Presence.{Presence}
+use Rattle.line.specs.declared.presence.Presence.TheVariants.{Empty}
+use Rattle.std.proofs.lemmas.List.{map-append}
+use Rattle.line.specs.Presences.{together}
+use Rattle.line.specs.Seats.{Seat, drives_seat, drives_line, takes_seat, reset_seat, off, occupied, presence, through}
 
 and_assoc : (a b c : Bool) → (a && (b && c)) ≡ ((a && b) && c)
 and_assoc true b c = refl
@@ -35,11 +39,35 @@ pub reset_off : (xs : List Seat) → map reset_seat (map off xs) ≡ map off xs
 reset_off [] = refl
 reset_off (x ∷ xs) = ap (λ (l : List Seat). off x ∷ l) (reset_off xs)
 
--- what a reset's answer says of the seats
-pub from_present : (b : Bool) → Present ≡ presence b → b ≡ true
-from_present true e = refl
-from_present false e = let z : ◌≡◌ {A = ℕ} 0 1 = cc in absurd (omega arith)
+pub takes_join : (level : Bool) (xs ys xs' ys' : List Seat) → xs' ≡ map (takes_seat level) xs → ys' ≡ map (takes_seat level) ys → (xs' ++ ys') ≡ map (takes_seat level) (xs ++ ys)
+takes_join level xs ys xs' ys' p q = (λ i. p i ++ q i) ∙ sym (map-append (takes_seat level) xs ys)
 
-pub from_empty : (b : Bool) → Empty ≡ presence b → b ≡ false
-from_empty true e = let z : ◌≡◌ {A = ℕ} 0 1 = cc in absurd (omega arith)
-from_empty false e = refl
+-- a reset of two lines on one wire
+presence_together : (a b : Bool) → together (presence a) (presence b) ≡ presence (a || b)
+presence_together true b = refl
+presence_together false b = refl
+
+pub presence_join : (p q r : Presence) (xs ys : List Seat) → p ≡ presence (occupied xs) → q ≡ presence (occupied ys) → r ≡ together p q → r ≡ presence (occupied (xs ++ ys))
+presence_join p q r xs ys e f g =
+    g ∙ (λ i. together (e i) (f i)) ∙ presence_together (occupied xs) (occupied ys) ∙ ap presence (sym (occupied_join xs ys))
+
+pub reset_join : (xs ys xs' ys' : List Seat) → xs' ≡ map reset_seat xs → ys' ≡ map reset_seat ys → (xs' ++ ys') ≡ map reset_seat (xs ++ ys)
+reset_join xs ys xs' ys' p q = (λ i. p i ++ q i) ∙ sym (map-append reset_seat xs ys)
+
+-- ---- a detached socket
+
+pub drives_through : (b : Bool) (xs : List Seat) → b ≡ false → true ≡ drives_line (through b xs)
+drives_through true xs e = absurd (both_ways true e refl)
+drives_through false xs e = sym (drives_off xs)
+
+pub takes_through : (b level : Bool) (xs : List Seat) → b ≡ false → through b xs ≡ map (takes_seat level) (through b xs)
+takes_through true level xs e = absurd (both_ways true e refl)
+takes_through false level xs e = sym (takes_off level xs)
+
+pub present_through : (b : Bool) (xs : List Seat) → b ≡ false → Empty ≡ presence (occupied (through b xs))
+present_through true xs e = absurd (both_ways true e refl)
+present_through false xs e = ap presence (sym (occupied_off xs))
+
+pub reset_through : (b : Bool) (xs : List Seat) → b ≡ false → through b xs ≡ map reset_seat (through b xs)
+reset_through true xs e = absurd (both_ways true e refl)
+reset_through false xs e = sym (reset_off xs)

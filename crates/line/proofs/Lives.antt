@@ -106,7 +106,7 @@ follows_on calls more s t u f g =
           (record { sized = l.sized; state = then.led.state ∙ ap (λ (cs : List Call). life cs (born h)) (append_assoc h.calls calls more) });
     }
 
-reached_itself : (c : Call) (s : Seat) → itself (reaches c s) ≡ reaches c (itself s)
+pub reached_itself : (c : Call) (s : Seat) → itself (reaches c s) ≡ reaches c (itself s)
 reached_itself (slot level) s = refl
 reached_itself reset s = refl
 reached_itself tick s = refl
@@ -123,10 +123,14 @@ same_bytes e = cc
 no_bytes : (bytes : List ℕ) → None ≡ Some bytes → length bytes ≡ 32
 no_bytes bytes e = let z : ◌≡◌ {A = ℕ} 0 1 = cc in absurd (omega arith)
 
+pub tag_made : (a : ℕ) (s : Seat) → s ≡ deaf_seat a None → LawfulHistory (record { address = a; eeprom = None; calls = [] }) s
+tag_made a s e = makes a None s no_bytes e
+
+pub pack_made : (a : ℕ) (bytes : List ℕ) (s : Seat) → length bytes ≡ 32 → s ≡ deaf_seat a (Some bytes) → LawfulHistory (record { address = a; eeprom = Some bytes; calls = [] }) s
+pack_made a bytes s l e = makes a (Some bytes) s (λ b p. ap length (sym (same_bytes p)) ∙ l) e
+
+pub reached : (c : Call) (s t : Seat) → t ≡ reaches c s → FollowsBy (c ∷ []) s t
+reached c s t e = follows_by (c ∷ []) s t (ap itself e ∙ reached_itself c s ∙ sym (life_one c (itself s)))
+
 pub histories_are_lawful : HistoriesAreLawful
-histories_are_lawful =
-    record {
-      tag = λ a s e. makes a None s no_bytes e;
-      pack = λ a bytes s l e. makes a (Some bytes) s (λ b p. ap length (sym (same_bytes p)) ∙ l) e;
-      follows = λ c s t e. follows_by (c ∷ []) s t (ap itself e ∙ reached_itself c s ∙ sym (life_one c (itself s)));
-    }
+histories_are_lawful = record { tag = tag_made; pack = pack_made; follows = reached }

@@ -1,9 +1,7 @@
 -- Bits sent one after the other. Assumes nothing.
-use Rattle.std.proofs.Common.{◌≡◌, ℕ, suc, ◌+◌, ◌-◌, ◌*◌, ◌^◌, ◌<◌, Bool, true, false, List, [], length, get_or, drop, sym, refl, ap, ◌∙◌, add-mul, zero-add, mul-add, mul_left_comm, add-one, arith}
+use Rattle.std.proofs.Common.{◌≡◌, ℕ, suc, ◌+◌, ◌-◌, ◌*◌, ◌^◌, ◌<◌, Bool, true, false, List, [], length, get_or, drop, sym, refl, ap, ◌∙◌, add-mul, mul-add, mul_left_comm, add-one, arith}
 use native.Mathlib.Nat.{two-pow-succ}
-use Rattle.std.proofs.lemmas.List.FromFn.{get_or-map-range_with_len}
 use Rattle.std.proofs.lemmas.List.{drop_more}
-use Rattle.address.specs.Bits.{bit, bits}
 use Rattle.address.specs.CheckByte.{one}
 use Rattle.line.specs.Seats.{Seat, drives_line}
 use Rattle.line.specs.Sending.{sent_bit, sent, read_on, read_value}
@@ -17,15 +15,10 @@ pub sent_none : (ss : List Seat) → sent [] ss ≡ ss
 unfolding sent
 sent_none ss = refl
 
--- bit k of a byte, and then those behind it
-pub sent_more : (byte k : ℕ) (ss : List Seat) → k < 8 → sent (drop k (bits byte)) ss ≡ sent (drop (k + 1) (bits byte)) (sent_bit (bit k byte) ss)
+-- one bit, and then those behind it
+pub sent_more : (bs : List Bool) (k : ℕ) (ss : List Seat) → k < length bs → sent (drop k bs) ss ≡ sent (drop (k + 1) bs) (sent_bit (get_or bs k false) ss)
 unfolding sent
-sent_more byte k ss h =
-    let f : ℕ → Bool = λ j. bit j byte in
-    let l : k < length (bits byte) = h in
-    let at : get_or (bits byte) k false ≡ bit k byte = get_or-map-range_with_len f 0 8 k k false h (zero-add k) in
-    ap (λ (bs : List Bool). sent bs ss) (drop_more (bits byte) k false l)
-    ∙ ap (λ (b : Bool). sent (drop (k + 1) (bits byte)) (sent_bit b ss)) at
+sent_more bs k ss h = ap (λ (xs : List Bool). sent xs ss) (drop_more bs k false h)
 
 -- ---- bits read
 

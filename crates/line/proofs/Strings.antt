@@ -64,10 +64,13 @@ each_then : {cs ds : List (List Call)} {ss tt uu : List Seat} → FollowEach cs 
 each_then none none = none
 each_then (more {calls} {s} {t} f fs) (more {calls = ds} {t = u} g gs) = more (follows_on calls ds s t u f g) (each_then fs gs)
 
+pub signals_followed : (xs : List Signal) (ss tt : List Seat) → tt ≡ map (played xs) ss → FollowEach (map (reaching xs) ss) ss tt
+signals_followed xs ss after e = subst (λ (l : List Seat). FollowEach (map (reaching xs) ss) ss l) (sym e) (each_signal xs ss)
+
 pub strings_follow : StringsFollow
 strings_follow =
     record {
-      signals = λ xs ss after e. subst (λ (l : List Seat). FollowEach (map (reaching xs) ss) ss l) (sym e) (each_signal xs ss);
+      signals = signals_followed;
       still = λ ss after e. subst (λ (l : List Seat). FollowEach (nothing ss) ss l) (sym e) (each_still ss);
       pair = λ cs ds ss ss' rr rr' f g. each_pair f g;
       socket = λ b c cs ss after f. each_around b c f;
@@ -80,13 +83,13 @@ played_one : (x : Signal) (ss : List Seat) → map (signalled x) ss ≡ map (pla
 unfolding played
 played_one x ss = refl
 
-attached_by : (b : Bool) (ss tt : List Seat) → b ≡ false → tt ≡ map reset_seat ss → SocketFollows b true (map (attaching b) ss) ss tt
+pub attached_by : (b : Bool) (ss tt : List Seat) → b ≡ false → tt ≡ map reset_seat ss → SocketFollows b true (map (attaching b) ss) ss tt
 attached_by true ss after e r = absurd (both_ways true e refl)
 attached_by false ss after e r =
     let reset : FollowEach (map (reaching (Reset ∷ [])) ss) ss after = strings_follow.signals (Reset ∷ []) ss after (r ∙ played_one Reset ss) in
     record { each = strings_follow.socket false true (map (reaching (Reset ∷ [])) ss) ss after reset }
 
-already_by : (b : Bool) (ss : List Seat) → b ≡ true → SocketFollows b b (map (attaching b) ss) ss ss
+pub already_by : (b : Bool) (ss : List Seat) → b ≡ true → SocketFollows b b (map (attaching b) ss) ss ss
 already_by true ss e = record { each = unreached ss }
   where
     unreached : (ss : List Seat) → FollowEach (map (attaching true) ss) ss ss
@@ -96,6 +99,12 @@ already_by false ss e = absurd (both_ways false refl e)
 
 unmoved_by : (b c : Bool) (ss : List Seat) → SocketFollows b c (nothing ss) ss ss
 unmoved_by b c ss = record { each = strings_follow.socket b c (nothing ss) ss ss (strings_follow.still ss ss refl) }
+
+pub detached_by : (b : Bool) (ss : List Seat) → b ≡ true → SocketFollows b false (nothing ss) ss ss
+detached_by b ss e = unmoved_by b false ss
+
+pub off_by : (b : Bool) (ss : List Seat) → b ≡ false → SocketFollows b b (nothing ss) ss ss
+off_by b ss e = unmoved_by b b ss
 
 pub sockets_follow : SocketsFollow
 sockets_follow = record { attached = attached_by; already = already_by; detached = λ b ss e. unmoved_by b false ss; off = λ b ss e. unmoved_by b b ss }

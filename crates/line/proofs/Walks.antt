@@ -2,12 +2,13 @@
 use Rattle.std.proofs.Common.{◌≡◌, ℕ, zero, suc, ◌+◌, ◌^◌, ◌<◌, Bool, true, false, cond, not, ◌&&◌, ◌||◌, eqb, ltb, List, [], ◌∷◌, ◌++◌, map, Option, sym, refl, ap, ◌∙◌, ⊎_elim, add-one, arith}
 use mathlib.Core.Bool.{beq}
 use Rattle.std.specs.Option.{option_map}
-use Rattle.std.specs.List.{AllByRecursion}
+use Rattle.std.specs.List.{AllByRecursion, range_with_len}
 use Rattle.std.proofs.lemmas.List.{map-append}
 use Rattle.std.proofs.lemmas.Bool.{cond-false, cond-true, lt-ltb, le-ltb, cases_lt}
 use Rattle.ds2760.specs.Commands.{after_reset}
 use Rattle.ds2760.specs.States.{State}
 use Rattle.address.specs.Bits.{bit, bits}
+use Rattle.address.specs.Parts.{address_bits}
 use Rattle.line.specs.declared.stage.Stage.{Stage}
 use Rattle.line.specs.declared.stage.Stage.TheVariants.{Deaf, Command, Search, Match, Chosen}
 use Rattle.line.specs.declared.stage.Turn.{Turn}
@@ -23,7 +24,7 @@ use Rattle.line.specs.Signals.{played, slots}
 use Rattle.line.specs.Stages.{drives_stage, takes}
 use Rattle.line.proofs.Agrees.{agree_all}
 use Rattle.line.proofs.Plays.{played_append}
-use Rattle.line.proofs.Staged.{Unchosen, Silent, SilentAll, stepped, stepped_all, sent_all, sent_staged, all_taken, seat_taken, played_all}
+use Rattle.line.proofs.Staged.{Unchosen, Silent, SilentAll, stepped, stepped_all, sent_all, sent_staged, all_taken, seat_taken, played_all, reset_staged}
 
 -- a command of eight bits is silent, and none of its slots reaches a store
 pub command_silent : SilentAll (bits 0x55) (λ _. Command 0 0)
@@ -199,6 +200,22 @@ seat_ends here a q s h =
 pub walk_ends : (here : ℕ → Stage) (a : ℕ) → a < 2 ^ 64 → (ss : List Seat) → AllByRecursion (λ s. s.address < 2 ^ 64) ss → map (staged (walked here a 64)) ss ≡ map (chosen_by a) ss
 walk_ends here a q [] h = refl
 walk_ends here a q (s ∷ ss) h = λ i. seat_ends here a q s h.0 i ∷ walk_ends here a q ss h.1 i
+
+-- all bits of a match, for all seats
+sent_match : (n k a : ℕ) (ss : List Seat) → k + n ≡ 64 → sent (map (λ j. bit j a) (range_with_len k n)) (map (staged (walked Match a k)) ss) ≡ map (staged (walked Match a 64)) ss
+unfolding sent
+sent_match zero k a ss e = let last : k ≡ 64 = omega arith in ap (λ (m : ℕ). map (staged (walked Match a m)) ss) last
+sent_match (suc n) k a ss e =
+    let h : k < 64 = omega arith in
+    ap (sent (map (λ j. bit j a) (range_with_len (k + 1) n))) (match_more a k ss h) ∙ sent_match n (k + 1) a ss (omega arith)
+
+-- a reset, 55h and an address choose the seats with that address
+pub matched : (a : ℕ) (ss : List Seat) → a < 2 ^ 64 → AllByRecursion (λ s. s.address < 2 ^ 64) ss → sent (address_bits a) (sent (bits 0x55) (map reset_seat ss)) ≡ map (chosen_by a) ss
+matched a ss q narrow =
+    ap (λ (l : List Seat). sent (address_bits a) (sent (bits 0x55) l)) (reset_staged ss)
+    ∙ ap (sent (address_bits a)) (match_sent ss)
+    ∙ sent_match 64 0 a ss refl
+    ∙ walk_ends Match a q ss narrow
 
 -- ---- the signals of a walk
 

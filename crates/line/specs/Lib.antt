@@ -1,3 +1,5 @@
+pub mod Presences
+pub mod Commands
 pub mod Stages
 pub mod Seats
 pub mod Signals

@@ -9,16 +9,12 @@ ghost use Rattle.line.specs.Sending.{sent_bit};
 ghost use Rattle.line.specs.Signals.{played};
 
 use crate::Line;
-use crate::master::{read_bit, send_bit, send_byte};
+use crate::command::AddressCommand;
+use crate::master::{read_bit, send_bit, send_bits, send_byte};
 use address::Address;
 
-// The address command that a match begins with.
-const MATCH: u8 = 0x55;
-// The address command that a search begins with.
-const SEARCH: u8 = 0xf0;
-
 // Which values are answered at a bit of a search.
-#[derive(Clone, Copy)]
+#[derive(Clone, Copy, PartialEq, Eq, Debug)]
 pub struct Answered {
     pub zero: bool,
     pub one: bool,
@@ -47,15 +43,14 @@ pub fn match_address<L: Line>(line: &mut L, address: Address)
     walk_match(line, address);
 }
 
+// Its proof goes step by step; the public call's does not.
 fn walk_match<L: Line>(line: &mut L, address: Address)
     ensures chosen { L.Line.seats line.new ≡ map (chosen_by (number address)) (L.Line.seats line.old) }
     ensures given { L.Line.seats line.new ≡ map (played (match_signals (number address))) (L.Line.seats line.old) }
 {
     let _ = line.reset();
-    send_byte(line, MATCH);
-    for k in 0..64 {
-        send_bit(line, address.bit(k));
-    }
+    send_byte(line, AddressCommand::Match.byte());
+    send_bits(line, &address.bits());
 }
 
 // Resets the line and walks a search with an address, whatever is answered: then the seats with that
@@ -67,14 +62,15 @@ pub fn search_address<L: Line>(line: &mut L, address: Address)
     walk_search(line, address);
 }
 
+// Its proof goes step by step; the public call's does not.
 fn walk_search<L: Line>(line: &mut L, address: Address)
     ensures chosen { L.Line.seats line.new ≡ map (chosen_by (number address)) (L.Line.seats line.old) }
     ensures given { L.Line.seats line.new ≡ map (played (search_signals (number address) (on_line (L.Line.seats line.old)))) (L.Line.seats line.old) }
 {
     let _ = line.reset();
-    send_byte(line, SEARCH);
-    for k in 0..64 {
+    send_byte(line, AddressCommand::Search.byte());
+    for bit in address.bits() {
         let _ = ask(line);
-        send_bit(line, address.bit(k));
+        send_bit(line, bit);
     }
 }

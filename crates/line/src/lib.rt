@@ -6,6 +6,7 @@ ghost use Rattle.line.specs.Seats.{Seat, takes_seat, reset_seat, drives_line, oc
 ghost use Rattle.std.specs.List.{AllByRecursion};
 
 mod choosing;
+mod command;
 mod master;
 mod pair;
 mod playing;
@@ -19,6 +20,7 @@ mod tag_stage;
 mod tags;
 
 pub use choosing::{Answered, ask, match_address, search_address};
+pub use command::{AddressCommand, UnknownCommand};
 pub use master::{read_bit, read_byte, send_bit, send_byte};
 pub use pair::Pair;
 pub use playing::play;

@@ -17,40 +17,20 @@ impl<A: Line, B: Line> Line for Pair<A, B> {
 
     ghost narrow = { λ x. All-append (λ (s : Seat). s.address < 2 ^ 64) (A.Line.seats x.first) (B.Line.seats x.second) (A.Line.narrow x.first) (B.Line.narrow x.second) };
 
+    #[tactic(auto, using(crate::proofs::Joins::drives_join))]
     fn drive(&self) -> bool {
-        drive_both(&self.first, &self.second)
+        self.first.drive() && self.second.drive()
     }
 
+    #[tactic(auto, using(crate::proofs::Joins::takes_join))]
     fn slot(&mut self, level: bool) {
-        slot_both(&mut self.first, &mut self.second, level);
+        self.first.slot(level);
+        self.second.slot(level);
     }
 
+    #[tactic(auto, using(crate::proofs::Joins::presence_join, crate::proofs::Joins::reset_join))]
     fn reset(&mut self) -> Presence {
-        reset_both(&mut self.first, &mut self.second)
-    }
-}
-
-fn drive_both<A: Line, B: Line>(first: &A, second: &B) -> bool
-    ensures { result ≡ drives_line (A.Line.seats first.now ++ B.Line.seats second.now) }
-{
-    first.drive() && second.drive()
-}
-
-fn slot_both<A: Line, B: Line>(first: &mut A, second: &mut B, level: bool)
-    ensures { A.Line.seats first.new ++ B.Line.seats second.new ≡ map (takes_seat level) (A.Line.seats first.old ++ B.Line.seats second.old) }
-{
-    first.slot(level);
-    second.slot(level);
-}
-
-fn reset_both<A: Line, B: Line>(first: &mut A, second: &mut B) -> Presence
-    ensures present { result ≡ presence (occupied (A.Line.seats first.old ++ B.Line.seats second.old)) }
-    ensures after { A.Line.seats first.new ++ B.Line.seats second.new ≡ map reset_seat (A.Line.seats first.old ++ B.Line.seats second.old) }
-{
-    let one = first.reset();
-    let other = second.reset();
-    match one {
-        Presence::Present => Presence::Present,
-        Presence::Empty => other,
+        let first = self.first.reset();
+        first.or(self.second.reset())
     }
 }

@@ -7,15 +7,16 @@ use crate::Line;
 use crate::signal::Signal;
 
 // Gives the line these signals, in their order.
+#[tactic(auto, using(crate::proofs::Strings::signals_followed, crate::proofs::Strings::strings_follow))]
 pub fn play<L: Line>(line: &mut L, signals: &[Signal])
     ensures after { L.Line.seats line.new ≡ map (played signals.now) (L.Line.seats line.old) }
     ensures lives { FollowEach (map (reaching signals.now) (L.Line.seats line.old)) (L.Line.seats line.old) (L.Line.seats line.new) }
     ensures strings { StringsFollow }
 {
-    laws();
     play_each(line, signals);
 }
 
+// Its proof goes step by step; the public call's does not.
 fn play_each<L: Line>(line: &mut L, signals: &[Signal])
     ensures { L.Line.seats line.new ≡ map (played signals.now) (L.Line.seats line.old) }
 {
@@ -34,8 +35,3 @@ fn give<L: Line>(line: &mut L, signal: Signal)
         Signal::Slot { level } => line.slot(level),
     }
 }
-
-// Does nothing: a caller knows the law of strings after it.
-pub(crate) fn laws()
-    ensures { StringsFollow }
-{}

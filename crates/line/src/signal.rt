@@ -1,5 +1,5 @@
 // What a master gives a line.
-#[derive(Clone, Copy)]
+#[derive(Clone, Copy, PartialEq, Eq, Debug)]
 pub enum Signal {
     // a reset
     Reset,

@@ -2,7 +2,7 @@
 ghost use Rattle.std.specs.Prelude.{◌≡◌, true, false, map, MatchResult};
 ghost use Rattle.line.specs.Seats.{takes_seat, reset_seat, drives_line, occupied, presence, through};
 ghost use Rattle.line.specs.Sockets.{number_of, is_attached};
-ghost use Rattle.line.specs.Strings.{SocketFollows, SocketsFollow, attaching, nothing};
+ghost use Rattle.line.specs.Strings.{SocketFollows, attaching, nothing};
 ghost use Rattle.line.specs.SocketLineLemmas.{either};
 
 use crate::Line;
@@ -18,16 +18,15 @@ pub struct Socket<L> {
 #[derive(Clone, Copy, PartialEq, Eq, Debug)]
 pub enum Refusal {
     // it is so already
-    Already,
+    Already = 10,
 }
 
 impl Refusal {
+    // Its number; each set of refusals has its own.
     pub fn number(&self) -> u8
         ensures { result ≡ number_of self.now }
     {
-        match self {
-            Refusal::Already => 10,
-        }
+        *self as u8
     }
 }
 
@@ -44,11 +43,11 @@ impl<L: Line> Socket<L> {
     }
 
     // Attaches the line, and gives it a reset.
+    #[tactic(auto, using(crate::proofs::Strings::attached_by, crate::proofs::Strings::already_by))]
     pub fn attach(&mut self) -> Result<(), Refusal>
         ensures cases { MatchResult result (λ _. (is_attached self.old ≡ false) × (is_attached self.new ≡ true) × (L.Line.seats self.new.line ≡ map reset_seat (L.Line.seats self.old.line))) (λ _. (is_attached self.old ≡ true) × (self.new ≡ self.old)) }
         ensures lives { SocketFollows (is_attached self.old) (is_attached self.new) (map (attaching (is_attached self.old)) (L.Line.seats self.old.line)) (L.Line.seats self.old.line) (L.Line.seats self.new.line) }
     {
-        laws();
         if self.attached {
             return Err(Refusal::Already);
         }
@@ -58,11 +57,11 @@ impl<L: Line> Socket<L> {
     }
 
     // Detaches the line, which stays as it is.
+    #[tactic(auto, using(crate::proofs::Strings::detached_by, crate::proofs::Strings::off_by))]
     pub fn detach(&mut self) -> Result<(), Refusal>
         ensures cases { MatchResult result (λ _. (is_attached self.old ≡ true) × (is_attached self.new ≡ false) × (self.new.line ≡ self.old.line)) (λ _. (is_attached self.old ≡ false) × (self.new ≡ self.old)) }
         ensures lives { SocketFollows (is_attached self.old) (is_attached self.new) (nothing (L.Line.seats self.old.line)) (L.Line.seats self.old.line) (L.Line.seats self.new.line) }
     {
-        laws();
         if !self.attached {
             return Err(Refusal::Already);
         }
@@ -76,45 +75,24 @@ impl<L: Line> Line for Socket<L> {
 
     ghost narrow = { λ x. either x.attached (L.Line.seats x.line) (L.Line.narrow x.line) };
 
+    #[tactic(auto, using(crate::proofs::Joins::drives_through))]
     fn drive(&self) -> bool {
-        drive_through(self.attached, &self.line)
+        !self.attached || self.line.drive()
     }
 
+    #[tactic(auto, using(crate::proofs::Joins::takes_through))]
     fn slot(&mut self, level: bool) {
-        slot_through(self.attached, &mut self.line, level);
+        if self.attached {
+            self.line.slot(level);
+        }
     }
 
+    #[tactic(auto, using(crate::proofs::Joins::present_through, crate::proofs::Joins::reset_through))]
     fn reset(&mut self) -> Presence {
-        reset_through(self.attached, &mut self.line)
-    }
-}
-
-// Does nothing: a caller knows the law of sockets after it.
-fn laws()
-    ensures { SocketsFollow }
-{}
-
-fn drive_through<L: Line>(attached: bool, line: &L) -> bool
-    ensures { result ≡ drives_line (through attached (L.Line.seats line.now)) }
-{
-    if attached { line.drive() } else { true }
-}
-
-fn slot_through<L: Line>(attached: bool, line: &mut L, level: bool)
-    ensures { through attached (L.Line.seats line.new) ≡ map (takes_seat level) (through attached (L.Line.seats line.old)) }
-{
-    if attached {
-        line.slot(level);
-    }
-}
-
-fn reset_through<L: Line>(attached: bool, line: &mut L) -> Presence
-    ensures present { result ≡ presence (occupied (through attached (L.Line.seats line.old))) }
-    ensures after { through attached (L.Line.seats line.new) ≡ map reset_seat (through attached (L.Line.seats line.old)) }
-{
-    if attached {
-        line.reset()
-    } else {
-        Presence::Empty
+        if self.attached {
+            self.line.reset()
+        } else {
+            Presence::Empty
+        }
     }
 }

@@ -1,5 +1,5 @@
 -- The flags of open bits, and the deepest of them. Assumes nothing.
-use Rattle.std.proofs.Common.{◌≡◌, ℕ, zero, suc, ◌<◌, Bool, true, false, cond, not, List, length, get_or, is_some, Some, None, Decides, Option, sym, refl, subst, ⊎_elim, arith}
+use Rattle.std.proofs.Common.{◌≡◌, ℕ, zero, suc, ◌<◌, Bool, true, false, cond, not, List, length, get_or, is_some, Some, None, IfSome, IfNone, Decides, Option, sym, refl, ap, ◌∙◌, subst, ⊎_elim, arith}
 use Rattle.std.proofs.lemmas.List.{get_or-set_same, get_or-set_other, length-set, get_or_past}
 use Rattle.std.proofs.lemmas.Bool.{both_ways, cases_eq, cases_lt, lt-leb}
 use Rattle.listing.specs.Rule.{deepest_below, deepest, closing, told}
@@ -42,6 +42,22 @@ pub deepest_deep : (f : List Bool) → length f ≡ 64 → Deep (deepest f) f
 deepest_deep f long =
     let h = deep_below 64 f in
     record { above = λ j a. ⊎_elim (λ (l : j < 64). h.above j l a) (λ l. get_or_past f j false (omega arith)) (cases_lt j 64); at = h.at }
+
+-- the deepest is the one that is open with none open above it
+none_deepest : (n : ℕ) (f : List Bool) → ((j : ℕ) → j < n → get_or f j false ≡ false) → deepest_below n f ≡ None
+none_deepest zero f h = refl
+none_deepest (suc n) f h = ap (λ (b : Bool). cond b (Some n) (deepest_below n f)) (h n (omega arith)) ∙ none_deepest n f (λ j l. h j (omega arith))
+
+open_deepest : (n k : ℕ) (f : List Bool) → k < n → get_or f k false ≡ true → ((j : ℕ) → k < j → j < n → get_or f j false ≡ false) → deepest_below n f ≡ Some k
+open_deepest zero k f l e h = absurd (omega arith)
+open_deepest (suc n) k f l e h =
+    ⊎_elim (λ (q : k ≡ n). ap (λ (b : Bool). cond b (Some n) (deepest_below n f)) (subst (λ (m : ℕ). get_or f m false ≡ true) q e) ∙ ap Some (sym q))
+    (λ q. let m : k < n = omega (arith, q) in
+    ap (λ (b : Bool). cond b (Some n) (deepest_below n f)) (h n m (omega arith)) ∙ open_deepest n k f m e (λ j a b. h j a (omega arith))) (cases_eq k n)
+
+pub deepest_is : (f : List Bool) (d : Option ℕ) → IfSome d (λ k. k < 64) → IfNone d ((j : ℕ) → j < 64 → get_or f j false ≡ false) → IfSome d (λ k. get_or f k false ≡ true) → IfSome d (λ k. (j : ℕ) → k < j → j < 64 → get_or f j false ≡ false) → deepest f ≡ d
+deepest_is f None l n e a = none_deepest 64 f n
+deepest_is f (Some k) l n e a = open_deepest 64 k f l e a
 
 none_open : (d : Option ℕ) (f : List Bool) → Deep d f → Decides (not (is_some d)) (NoneOpen f)
 none_open None f h = (λ _ j. h.above j tt, λ _. refl)

@@ -13,3 +13,4 @@ pub mod Progress
 pub mod Still
 pub mod Lines
 pub mod Leaves
+pub mod Worked

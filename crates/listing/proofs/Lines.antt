@@ -1,5 +1,5 @@
 -- The walk of a pass over the seats of a line, bit by bit. Assumes nothing.
-use Rattle.std.proofs.Common.{◌≡◌, ℕ, zero, suc, ◌+◌, ◌-◌, ◌^◌, ◌<◌, Bool, true, false, cond, not, ◌&&◌, ◌||◌, ltb, List, [], ◌∷◌, ◌++◌, map, set, Some, None, Option, sym, refl, ap, ◌∙◌, subst, lt_trans, lt-suc_self, add-one, arith}
+use Rattle.std.proofs.Common.{◌≡◌, ℕ, zero, suc, ◌+◌, ◌-◌, ◌^◌, ◌<◌, Bool, true, false, cond, not, ◌&&◌, ◌||◌, ltb, List, [], ◌∷◌, ◌++◌, map, set, Option, Ok, Err, if◌then◌else◌, sym, refl, ap, ◌∙◌, subst, lt_trans, lt-suc_self, add-one, arith}
 use mathlib.Core.Bool.{beq}
 use Rattle.std.proofs.lemmas.Simd.{map-map}
 use Rattle.std.proofs.lemmas.Bool.{both_ways}
@@ -17,10 +17,12 @@ use Rattle.line.specs.Seats.{Seat, drives_line, takes_seat, reset_seat, occupied
 use Rattle.line.specs.Sending.{sent_bit, sent}
 use Rattle.line.specs.Signals.{signalled, played, slots}
 use Rattle.line.specs.Stages.{with_bit}
-use Rattle.line.proofs.Joins.{from_empty}
 use Rattle.line.proofs.Staged.{line_silent, reset_staged}
 use Rattle.line.proofs.Walks.{walked, search_at, turned, at_bit, first_read, second_read, gone_on, value_sent, asked_line, turn_unchosen, listen_silent, search_sent, command_silent, commanded}
 use Rattle.listing.specs.Rule.{levels, Walk, silent, stopped, reached, wanted, stops, forks, walk, walk_over, walk_levels, levels_over}
+use Rattle.listing.specs.Meaning.{walk_of}
+use Rattle.listing.specs.declared.walk.Stop.{Stop}
+use Rattle.listing.specs.declared.walk.Stop.TheVariants.{At}
 use Rattle.listing.proofs.Answering.{sent_below, sent_here}
 use Rattle.listing.proofs.Steps.{walk_end, walk_stops, walk_on, levels_end, levels_stop, levels_on}
 
@@ -81,14 +83,14 @@ quiet_slot : (v : Bool) (ss : List Seat) → drives_line ss ≡ true → sent_bi
 quiet_slot true ss e = ap (λ (b : Bool). map (takes_seat b) ss) e
 quiet_slot false ss e = refl
 
--- what `wanted` answers
-pub wants : (b x y : Bool) → Some y ≡ cond b None (Some x) → (b ≡ false) × (y ≡ x)
-wants true x y e = let z : ◌≡◌ {A = ℕ} 0 1 = cc in absurd (omega arith)
-wants false x y e = (refl, cc)
+-- what the value to send is
+wants : (b x y : Bool) (i : ℕ) → Ok y ≡ (if b then Err (At i) else Ok x) → (b ≡ false) × (y ≡ x)
+wants true x y i e = let z : ◌≡◌ {A = ℕ} 0 1 = cc in absurd (omega arith)
+wants false x y i e = (refl, cc)
 
-pub wants_none : (b x : Bool) → None ≡ cond b None (Some x) → b ≡ true
-wants_none true x e = refl
-wants_none false x e = let z : ◌≡◌ {A = ℕ} 0 1 = cc in absurd (omega arith)
+wants_none : (b x : Bool) (i : ℕ) (s : Stop) → Err s ≡ (if b then Err (At i) else Ok x) → (b ≡ true) × (s ≡ At i)
+wants_none true x i s e = (refl, cc)
+wants_none false x i s e = let z : ◌≡◌ {A = ℕ} 0 1 = cc in absurd (omega arith)
 
 -- ---- the walk under way
 
@@ -163,21 +165,22 @@ module _ (ss : List Seat) (d : Option ℕ) (last : ℕ) (before : List Bool) (st
         )
 
     -- the same, as the code has it
-    pub bit_goes_on : (lo hi v : Bool) (next : ℕ) (g : List Bool) (asked after : List Seat) → sent < 2 ^ i → lo ≡ not (drives_line here) → hi ≡ not (drives_line (sent_bit true here)) → asked ≡ sent_bit true (sent_bit true here) → Some v ≡ cond (stops d last i lo hi) None (Some (wanted d last i lo)) → g ≡ cond (forks d i lo hi) (set f i true) f → after ≡ sent_bit v asked → next ≡ with_bit i v sent → Going ss d last before start (i + 1) next g after
+    pub bit_goes_on : (lo hi v : Bool) (next : ℕ) (g : List Bool) (asked after : List Seat) → sent < 2 ^ i → lo ≡ not (drives_line here) → hi ≡ not (drives_line (sent_bit true here)) → asked ≡ sent_bit true (sent_bit true here) → Ok v ≡ (if stops d last i lo hi then Err (At i) else Ok (wanted d last i lo)) → g ≡ cond (forks d i lo hi) (set f i true) f → after ≡ sent_bit v asked → next ≡ with_bit i v sent → Going ss d last before start (i + 1) next g after
     bit_goes_on lo hi v next g asked after small z o q w fork s n =
         let low = z ∙ zero_read in
         let high = o ∙ one_read in
-        let wish = wants (stops d last i lo hi) (wanted d last i lo) v w in
+        let wish = wants (stops d last i lo hi) (wanted d last i lo) v i w in
         let value = wish.1 ∙ ap (wanted d last i) low in
         let on = goes_on_lem small (sym (λ j. stops d last i (low j) (high j)) ∙ wish.0) in
         moved ss d last before start (i + 1) (sym (n ∙ ap (λ (b : Bool). with_bit i b sent) value)) (sym (fork ∙ (λ j. cond (forks d i (low j) (high j)) (set f i true) f))) (sym (s ∙ (λ j. sent_bit (value j) (q j)))) on
 
-    pub bit_stops : (lo hi : Bool) (asked : List Seat) → lo ≡ not (drives_line here) → hi ≡ not (drives_line (sent_bit true here)) → asked ≡ sent_bit true (sent_bit true here) → None ≡ cond (stops d last i lo hi) None (Some (wanted d last i lo)) → (stopped i ≡ walk (on_line ss) d last 64 0 0 before) × (asked ≡ map (played (slots (walk_levels (on_line ss) d last 64 0 0))) start)
-    bit_stops lo hi asked z o q w =
+    pub bit_stops : (lo hi : Bool) (stop : Stop) (asked : List Seat) → lo ≡ not (drives_line here) → hi ≡ not (drives_line (sent_bit true here)) → asked ≡ sent_bit true (sent_bit true here) → Err stop ≡ (if stops d last i lo hi then Err (At i) else Ok (wanted d last i lo)) → (walk_of (Err stop) ≡ walk (on_line ss) d last 64 0 0 before) × (asked ≡ map (played (slots (walk_levels (on_line ss) d last 64 0 0))) start)
+    bit_stops lo hi stop asked z o q w =
         let low = z ∙ zero_read in
         let high = o ∙ one_read in
-        let both = stops_here (sym (λ j. stops d last i (low j) (high j)) ∙ wants_none (stops d last i lo hi) (wanted d last i lo) w) in
-        (both.0, q ∙ both.1)
+        let none = wants_none (stops d last i lo hi) (wanted d last i lo) i stop w in
+        let both = stops_here (sym (λ j. stops d last i (low j) (high j)) ∙ none.0) in
+        (ap (λ (s : Stop). walk_of (Err s)) none.1 ∙ both.0, q ∙ both.1)
 
   -- after the last bit
   pub ends_here : (i sent : ℕ) (f : List Bool) (here : List Seat) → Going ss d last before start i sent f here → i ≡ 64 → (reached sent f ≡ walk (on_line ss) d last 64 0 0 before) × (here ≡ map (played (slots (walk_levels (on_line ss) d last 64 0 0))) start)
@@ -191,6 +194,10 @@ module _ (ss : List Seat) (d : Option ℕ) (last : ℕ) (before : List Bool) (st
       )
 
 -- ---- before the walk
+
+from_empty : (b : Bool) → Empty ≡ presence b → b ≡ false
+from_empty true e = let z : ◌≡◌ {A = ℕ} 0 1 = cc in absurd (omega arith)
+from_empty false e = refl
 
 none_on_by : (t : Bool) (x : ℕ) (rest : Bool) (xs : List ℕ) → (rest ≡ false → xs ≡ []) → (t || rest) ≡ false → cond t (x ∷ xs) xs ≡ []
 none_on_by true x rest xs h e = absurd (both_ways true e refl)

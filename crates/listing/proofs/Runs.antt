@@ -7,12 +7,12 @@ use Rattle.std.proofs.lemmas.Bool.{both_ways, cases_lt, cond-true, leb-false, lt
 use Rattle.address.specs.Parts.{right}
 use Rattle.address.specs.SearchOrder.{Before}
 use Rattle.address.specs.Orders.{search_order}
-use Rattle.listing.specs.declared.answer.BeginRefusal.{BeginRefusal}
-use Rattle.listing.specs.declared.answer.BeginRefusal.TheVariants.{LimitTooHigh}
+use Rattle.listing.specs.declared.begin_refusal.BeginRefusal.{BeginRefusal}
+use Rattle.listing.specs.declared.begin_refusal.BeginRefusal.TheVariants.{LimitTooHigh}
 use Rattle.listing.specs.declared.answer.PassRefusal.{PassRefusal}
 use Rattle.listing.specs.declared.answer.PassRefusal.TheVariants.{Complete, LimitReached}
 use Rattle.listing.specs.Rule.{State, Outcome, found, spoilt, closed_at, closed_empty, begun, deepest, outcome, lists, passed, begin_refusal, pass_refusal}
-use Rattle.listing.specs.Runs.{Call, begin, pass, does, run, after, Pass, pass_of, joins, passes_from, passes, On, Rising, NoneOpen, EndsClosed, Narrow, NarrowCall, Truthful, ListingsAreTruthful, Limited, Goes}
+use Rattle.listing.specs.Runs.{Reachable, Call, begin, pass, does, run, after, Pass, pass_of, joins, passes_from, passes, On, Rising, NoneOpen, EndsClosed, Narrow, NarrowCall, Truthful, ListingsAreTruthful, Limited, Goes}
 use Rattle.listing.specs.Passes.{Sought, Read}
 use Rattle.listing.proofs.Flags.{deepest_deep, none_some}
 use Rattle.listing.proofs.Passes.{searches, passed_long, all_sought}
@@ -277,13 +277,28 @@ by_begin limit s o e = ap (λ (r : Option BeginRefusal). cond (is_some r) s (beg
 by_pass : (xs : List ℕ) (s : State) (o : Option PassRefusal) → pass_refusal s ≡ o → does (pass xs) s ≡ cond (is_some o) s (passed xs s)
 by_pass xs s o e = ap (λ (r : Option PassRefusal). cond (is_some r) s (passed xs s)) e
 
+pub new_truthful : (s : State) → s ≡ begun 0 → Truthful [] s
+new_truthful s e = truthful [] s tt (e ∙ sym (run_none (begun 0)))
+
+pub new_reachable : (s : State) → s ≡ begun 0 → Reachable s
+new_reachable s e = record { calls = []; narrow = tt; state = e ∙ sym (run_none (begun 0)) }
+
+pub new_limited : (s : State) → s ≡ begun 0 → Limited s
+new_limited s e = subst Limited (sym e) (record { within = omega arith; limited = omega arith })
+
+pub begins : (limit : ℕ) (s t : State) → begin_refusal limit ≡ None → t ≡ begun limit → Goes (begin limit) s t
+begins limit s t r e = goes (begin limit) s t tt (e ∙ sym (by_begin limit s None r))
+
+pub begin_refused : (limit : ℕ) (refusal : BeginRefusal) (s t : State) → begin_refusal limit ≡ Some refusal → t ≡ s → Goes (begin limit) s t
+begin_refused limit refusal s t r e = goes (begin limit) s t tt (e ∙ sym (by_begin limit s (Some refusal) r))
+
 pub listings_are_truthful : ListingsAreTruthful
 listings_are_truthful =
     record {
-      new = λ s e. truthful [] s tt (e ∙ sym (run_none (begun 0)));
-      start = λ s e. record { calls = []; narrow = tt; state = e ∙ sym (run_none (begun 0)) };
-      begins = λ limit s t r e. goes (begin limit) s t tt (e ∙ sym (by_begin limit s None r));
-      begin_refused = λ limit refusal s t r e. goes (begin limit) s t tt (e ∙ sym (by_begin limit s (Some refusal) r));
+      new = new_truthful;
+      start = new_reachable;
+      begins = begins;
+      begin_refused = begin_refused;
       passes = λ xs s t n r e. goes (pass xs) s t n (e ∙ sym (by_pass xs s None r));
       pass_refused = λ xs refusal s t n r e. goes (pass xs) s t n (e ∙ sym (by_pass xs s (Some refusal) r));
       limited = λ calls. run_limited calls (begun 0) (record { within = omega arith; limited = omega arith });

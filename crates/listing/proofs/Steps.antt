@@ -1,9 +1,12 @@
 -- A walk bit by bit, as a loop over 64 bits makes it. Assumes nothing.
-use Rattle.std.proofs.Common.{◌≡◌, ℕ, suc, ◌+◌, ◌-◌, ◌<◌, Bool, true, false, cond, not, List, [], ◌∷◌, get_or, set, Some, Option, refl, ap, ◌∙◌, add-one, arith}
+use Rattle.std.proofs.Common.{◌≡◌, ℕ, suc, ◌+◌, ◌-◌, ◌<◌, Bool, true, false, cond, not, List, [], ◌∷◌, ◌++◌, get_or, set, is_some, Some, Option, Err, refl, ap, ◌∙◌, add-one, arith}
 use Rattle.std.proofs.lemmas.Bool.{cond-true, cond-false}
 use Rattle.line.specs.Searching.{answered}
 use Rattle.line.specs.Stages.{with_bit}
-use Rattle.listing.specs.Rule.{stopped, reached, deepest_below, stops, wanted, forks, turned, walk, given, walk_levels}
+use Rattle.listing.specs.declared.walk.Stop.{Stop}
+use Rattle.listing.specs.declared.walk.Stop.TheVariants.{Silent, At}
+use Rattle.listing.specs.Meaning.{walk_of}
+use Rattle.listing.specs.Rule.{State, stopped, reached, deepest_below, deepest, closing, passed_by, stops, wanted, forks, turned, walk, given, walk_levels}
 
 -- the walk stops at bit i
 abbrev pub halts : List ℕ → Option ℕ → ℕ → ℕ → ℕ → Bool
@@ -65,3 +68,8 @@ module _ (xs : List ℕ) (d : Option ℕ) (last i sent : ℕ) (l : i < 64) where
 
   pub levels_on : halts xs d last i sent ≡ false → walk_levels xs d last (64 - i) i sent ≡ not (answered false i sent xs) ∷ not (answered true i sent xs) ∷ wanted d last i (answered false i sent xs) ∷ walk_levels xs d last (64 - (i + 1)) (i + 1) (onward xs d last i sent)
   levels_on e = turn_levels ∙ ap (λ (bs : List Bool). not (answered false i sent xs) ∷ not (answered true i sent xs) ∷ bs) (cond-false _ [] _ e)
+
+-- a walk that stopped keeps the list and the last address, and closes the deepest open bit
+pub stopped_leaves : (stop : Stop) (s : State) → passed_by (walk_of (Err stop)) s ≡ record { listed = s.listed ++ []; last = s.last; opens = closing (deepest s.opens) s.opens; limit = s.limit; complete = not (is_some (deepest (closing (deepest s.opens) s.opens))) }
+stopped_leaves Silent s = refl
+stopped_leaves (At bit) s = refl

@@ -5,7 +5,7 @@ use Rattle.std.proofs.lemmas.Bool.{both_ways, cases_Bool, le-ltb}
 use Rattle.address.specs.SearchOrder.{Before}
 use Rattle.address.specs.Orders.{search_order}
 use Rattle.line.specs.Searching.{answered}
-use Rattle.listing.specs.declared.answer.BeginRefusal.TheVariants.{LimitTooHigh}
+use Rattle.listing.specs.declared.begin_refusal.BeginRefusal.TheVariants.{LimitTooHigh}
 use Rattle.listing.specs.Rule.{State, begun, deepest, outcome, lists, passed, pass_refusal}
 use Rattle.listing.specs.Runs.{begin, does, On, Narrow}
 use Rattle.listing.specs.Passes.{Sought, Read, is_closed, Searches}

@@ -1,7 +1,7 @@
 -- Worked cases. Assumes nothing.
 use Rattle.std.specs.Prelude.{◌≡◌, ℕ, true, List, [], ◌∷◌, ◌++◌, map, Some, sum}
 use Rattle.address.specs.Parts.{received}
-use Rattle.listing.specs.declared.answer.BeginRefusal.TheVariants.{LimitTooHigh}
+use Rattle.listing.specs.declared.begin_refusal.BeginRefusal.TheVariants.{LimitTooHigh}
 use Rattle.listing.specs.declared.answer.PassRefusal.TheVariants.{Complete, LimitReached}
 use Rattle.listing.specs.Rule.{Outcome, found, spoilt, closed_at, closed_empty, slots, pass_refusal, begin_refusal}
 use Rattle.listing.specs.Runs.{Call, begin, pass, after, passes}

@@ -4,8 +4,8 @@ use Rattle.address.specs.Bits.{bit, bits}
 use Rattle.address.specs.Parts.{right}
 use Rattle.line.specs.Searching.{answered}
 use Rattle.line.specs.Stages.{with_bit}
-use Rattle.listing.specs.declared.answer.BeginRefusal.{BeginRefusal}
-use Rattle.listing.specs.declared.answer.BeginRefusal.TheVariants.{LimitTooHigh}
+use Rattle.listing.specs.declared.begin_refusal.BeginRefusal.{BeginRefusal}
+use Rattle.listing.specs.declared.begin_refusal.BeginRefusal.TheVariants.{LimitTooHigh}
 use Rattle.listing.specs.declared.answer.PassRefusal.{PassRefusal}
 use Rattle.listing.specs.declared.answer.PassRefusal.TheVariants.{Complete, LimitReached}
 

@@ -3,7 +3,7 @@ use Rattle.std.specs.Prelude.{◌≡◌, ℕ, ◌+◌, ◌^◌, ◌<◌, ◌≤�
 use Rattle.std.specs.List.{flat_map, AllByRecursion}
 use Rattle.address.specs.Parts.{right}
 use Rattle.address.specs.SearchOrder.{Before}
-use Rattle.listing.specs.declared.answer.BeginRefusal.{BeginRefusal}
+use Rattle.listing.specs.declared.begin_refusal.BeginRefusal.{BeginRefusal}
 use Rattle.listing.specs.declared.answer.PassRefusal.{PassRefusal}
 use Rattle.listing.specs.Rule.{State, Outcome, begun, outcome, lists, passed, pass_refusal, begin_refusal}
 

@@ -1,7 +1,7 @@
-// What begin and pass answer.
+// What a pass answers.
 ghost use Rattle.std.specs.Prelude.{◌≡◌};
 ghost use Rattle.listing.specs.Meaning.{meant};
-ghost use Rattle.listing.specs.Rule.{slots as slots_of, pass_number, begin_number};
+ghost use Rattle.listing.specs.Rule.{slots as slots_of, pass_number};
 
 use address::Address;
 
@@ -32,39 +32,20 @@ impl Answer {
     }
 }
 
-// Why a listing is not begun.
-#[derive(Clone, Copy, PartialEq, Eq, Debug)]
-pub enum BeginRefusal {
-    // the limit is above 128
-    LimitTooHigh,
-}
-
-impl BeginRefusal {
-    pub fn number(&self) -> u8
-        ensures { result ≡ begin_number self.now }
-    {
-        match self {
-            BeginRefusal::LimitTooHigh => 11,
-        }
-    }
-}
-
 // Why a pass is not made.
 #[derive(Clone, Copy, PartialEq, Eq, Debug)]
 pub enum PassRefusal {
     // the listing is complete
-    Complete,
+    Complete = 3,
     // it has as many addresses as its limit
-    LimitReached,
+    LimitReached = 4,
 }
 
 impl PassRefusal {
+    // Its number; each set of refusals has its own.
     pub fn number(&self) -> u8
         ensures { result ≡ pass_number self.now }
     {
-        match self {
-            PassRefusal::Complete => 3,
-            PassRefusal::LimitReached => 4,
-        }
+        *self as u8
     }
 }

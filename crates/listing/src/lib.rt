@@ -15,8 +15,10 @@ use line::Line;
 use std::alloc::{AllocError, Global};
 
 mod answer;
+mod begin_refusal;
 mod beginning;
 mod cases;
+mod guide;
 mod listing;
 mod making;
 mod opens;
@@ -25,7 +27,8 @@ mod passing;
 mod walk;
 mod walking;
 
-pub use answer::{Answer, BeginRefusal, PassRefusal};
+pub use answer::{Answer, PassRefusal};
+pub use begin_refusal::BeginRefusal;
 pub use cases::worked_cases;
 pub use listing::Listing;
 
@@ -46,9 +49,7 @@ impl Listing {
         ensures cases { MatchResult result (λ _. (begin_refusal limit ≡ None) × (state_of self.new ≡ begun limit)) (λ e. (begin_refusal limit ≡ Some e) × (state_of self.new ≡ state_of self.old)) }
         ensures goes { Goes (begin_call limit) (state_of self.old) (state_of self.new) }
     {
-        if let Some(refusal) = self.begin_refusal(limit) {
-            return Err(refusal);
-        }
+        self.check_begin(limit)?;
         self.begin_anew(limit);
         Ok(())
     }
@@ -63,10 +64,7 @@ impl Listing {
         ensures progress { PassesProgress }
         ensures still { StillLinesList }
     {
-        self.laws(line);
-        if let Some(refusal) = self.pass_refusal(line) {
-            return Err(refusal);
-        }
+        self.check_pass(line)?;
         Ok(self.make_pass(line))
     }
 }

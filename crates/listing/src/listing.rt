@@ -1,6 +1,7 @@
 // A listing: the addresses that its passes found, and how far they came.
 ghost use Rattle.std.specs.Prelude.{◌≤◌, vec_len, vec_capacity};
 
+use crate::opens::Opens;
 use address::Address;
 
 #[derive(Drop)]
@@ -9,8 +10,7 @@ pub struct Listing {
     pub(crate) addresses: Vec<Address>,
     // the last address found, right or not
     pub(crate) last: Address,
-    // flag i: bit i is open
-    pub(crate) opens: [bool; 64],
+    pub(crate) opens: Opens,
     pub(crate) limit: usize,
     pub(crate) complete: bool,
     ghost room: { 128 ≤ vec_capacity addresses },

@@ -1,5 +1,5 @@
 // A pass, refused or made, with all that is known of it.
-ghost use Rattle.std.specs.Prelude.{◌≡◌, ◌<◌, IfNone, None, vec_len, OnSome};
+ghost use Rattle.std.specs.Prelude.{◌≡◌, ◌<◌, Some, None, vec_len, MatchResult, OnOk, OnErr};
 ghost use Rattle.line.specs.Searching.{on_line};
 ghost use Rattle.listing.specs.Calls.{Passed};
 ghost use Rattle.listing.specs.Meaning.{state_of, meant};
@@ -9,35 +9,40 @@ ghost use Rattle.listing.specs.Still.{PassesSeeAddresses, PassesProgress, StillL
 
 use crate::answer::{Answer, PassRefusal};
 use crate::listing::Listing;
-use crate::opens::all_flags;
 use line::Line;
 
 impl Listing {
-    // Why a pass over this line is refused, if it is.
-    pub(crate) fn pass_refusal<L: Line>(&self, line: &L) -> Option<PassRefusal>
-        ensures value { result ≡ pass_refusal (state_of self.now) }
-        ensures room { IfNone result (vec_len self.now.addresses < self.now.limit) }
-        ensures passed { OnSome result (Passed (L.Line.seats line.now) (L.Line.seats line.now) (state_of self.now) (state_of self.now)) }
+    // Refuses a pass over this line, where the listing is complete or at its limit.
+    pub(crate) fn check_pass<L: Line>(&self, line: &L) -> Result<(), PassRefusal>
+        ensures value { MatchResult result (λ _. pass_refusal (state_of self.now) ≡ None) (λ e. pass_refusal (state_of self.now) ≡ Some e) }
+        ensures room { OnOk result (vec_len self.now.addresses < self.now.limit) }
+        ensures searches { Searches (on_line (L.Line.seats line.now)) (state_of self.now) }
+        ensures reads { Reads }
+        ensures alike { PassesSeeAddresses }
+        ensures progress { PassesProgress }
+        ensures still { StillLinesList }
+        ensures passed { OnErr result (Passed (L.Line.seats line.now) (L.Line.seats line.now) (state_of self.now) (state_of self.now)) }
     {
         self.keeps_room();
-        self.is_refused()
+        self.check()
     }
 
-    fn is_refused(&self) -> Option<PassRefusal>
-        ensures value { result ≡ pass_refusal (state_of self.now) }
-        ensures room { IfNone result (vec_len self.now.addresses < self.now.limit) }
+    fn check(&self) -> Result<(), PassRefusal>
+        ensures value { MatchResult result (λ _. pass_refusal (state_of self.now) ≡ None) (λ e. pass_refusal (state_of self.now) ≡ Some e) }
+        ensures room { OnOk result (vec_len self.now.addresses < self.now.limit) }
     {
         let listed = self.addresses.as_slice();
         if self.complete {
-            Some(PassRefusal::Complete)
-        } else if listed.len() >= self.limit {
-            Some(PassRefusal::LimitReached)
-        } else {
-            None
+            return Err(PassRefusal::Complete);
         }
+        if listed.len() >= self.limit {
+            return Err(PassRefusal::LimitReached);
+        }
+        Ok(())
     }
 
-    // Makes a pass that is not refused.
+    // Makes a pass that is not refused. There is room for an address then, which is not so of every
+    // listing, so that the listing itself cannot say it.
     pub(crate) fn make_pass<L: Line>(&mut self, line: &mut L) -> Answer
         requires room { vec_len self.old.addresses < self.old.limit }
         requires refusal { pass_refusal (state_of self.old) ≡ None }
@@ -47,16 +52,5 @@ impl Listing {
         let answer = self.search(line);
         self.keeps_room();
         answer
-    }
-
-    // Does nothing: a caller knows the laws of passes over this line.
-    pub(crate) fn laws<L: Line>(&self, line: &L)
-        ensures searches { Searches (on_line (L.Line.seats line.now)) (state_of self.now) }
-        ensures reads { Reads }
-        ensures alike { PassesSeeAddresses }
-        ensures progress { PassesProgress }
-        ensures still { StillLinesList }
-    {
-        all_flags(&self.opens);
     }
 }

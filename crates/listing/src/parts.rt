@@ -5,7 +5,6 @@ ghost use Rattle.listing.specs.Meaning.{state_of};
 ghost use Rattle.listing.specs.Runs.{Limited};
 
 use crate::listing::Listing;
-use crate::opens::flag_at;
 use address::Address;
 
 impl Listing {
@@ -14,7 +13,6 @@ impl Listing {
         ensures listed { map number_of result.now ≡ (state_of self.now).listed }
         ensures limits { Limited (state_of self.now) }
     {
-        self.keeps_room();
         self.addresses.as_slice()
     }
 
@@ -29,7 +27,7 @@ impl Listing {
     pub fn is_open(&self, bit: u8) -> bool
         ensures { result ≡ slice_index_or (state_of self.now).opens bit false }
     {
-        flag_at(&self.opens, bit)
+        self.opens.is_open(bit)
     }
 
     // How many addresses it may have.

@@ -1,16 +1,17 @@
 // What a walk does to a listing.
-ghost use Rattle.std.specs.Prelude.{◌≡◌, ◌<◌, not, ◌∷◌, ◌++◌, map, is_some, IfSome, if◌then◌else◌, vec_len};
+ghost use Rattle.std.specs.Prelude.{◌≡◌, ◌<◌, not, ◌∷◌, ◌++◌, map, is_some, if◌then◌else◌, vec_len};
 ghost use Rattle.address.specs.Parts.{number as number_of, right};
 ghost use Rattle.line.specs.Searching.{on_line};
 ghost use Rattle.line.specs.Signals.{played, slots};
 ghost use Rattle.line.specs.declared.signal.Signal.TheVariants.{Reset};
-ghost use Rattle.listing.specs.Meaning.{state_of, meant, walk_of};
+ghost use Rattle.listing.specs.Meaning.{state_of, meant, walk_of, closed_by};
 ghost use Rattle.listing.specs.Rule.{found, spoilt, deepest as deepest_in, closing, lists, outcome, outcome_of, passed, passed_by, levels};
 
 use crate::answer::Answer;
+use crate::guide::Guide;
 use crate::listing::Listing;
-use crate::opens::{close, deepest_of};
-use crate::walk::Walk;
+use crate::opens::Opens;
+use crate::walk::{Reading, Stop};
 use crate::walking::walk;
 use address::Address;
 use line::Line;
@@ -23,49 +24,45 @@ impl Listing {
         ensures state { state_of self.new ≡ passed (on_line (L.Line.seats line.old)) (state_of self.old) }
         ensures given { L.Line.seats line.new ≡ map (played (Reset ∷ slots (levels (on_line (L.Line.seats line.old)) (state_of self.old)))) (L.Line.seats line.old) }
     {
-        let deepest = deepest_of(&self.opens);
-        let walk = walk(line, deepest, self.last, self.opens);
-        self.note(deepest, walk)
+        let guide = Guide {
+            last: self.last,
+            deepest: self.opens.deepest(),
+        };
+        let walk = walk(line, guide, self.opens);
+        self.note(guide.deepest, walk)
     }
 
     // Takes note of what a walk came to.
-    fn note(&mut self, deepest: Option<u8>, walk: Walk) -> Answer
+    fn note(&mut self, deepest: Option<u8>, walk: Result<Reading, Stop>) -> Answer
         requires room { vec_len self.old.addresses < self.old.limit }
-        requires deepest { deepest ≡ deepest_in self.old.opens }
-        requires below { IfSome deepest (λ k. k < 64) }
+        requires deepest { deepest ≡ deepest_in self.old.opens.flags }
         ensures answer { meant result ≡ outcome_of (walk_of walk) }
         ensures state { state_of self.new ≡ passed_by (walk_of walk) (state_of self.old) }
     {
         match walk {
-            Walk::Silent => {
-                let opens = self.opens;
-                self.settle(opens, deepest);
-                Answer::ClosedEmpty
-            }
-            Walk::Stopped { bit } => {
-                let opens = self.opens;
-                self.settle(opens, deepest);
-                Answer::ClosedAt { bit }
-            }
-            Walk::Reached { address, opens } => {
+            Ok(Reading { address, opens }) => {
                 self.settle(opens, deepest);
                 self.list(address)
+            }
+            Err(stop) => {
+                let opens = self.opens;
+                self.settle(opens, deepest);
+                Answer::from(stop)
             }
         }
     }
 
     // These bits are open now, less the deepest of before.
-    fn settle(&mut self, opens: [bool; 64], deepest: Option<u8>)
-        requires { IfSome deepest (λ k. k < 64) }
-        ensures opens { self.new.opens ≡ closing deepest opens }
-        ensures complete { self.new.complete ≡ not (is_some (deepest_in (closing deepest opens))) }
+    fn settle(&mut self, opens: Opens, deepest: Option<u8>)
+        ensures opens { self.new.opens.flags ≡ closing deepest opens.flags }
+        ensures complete { self.new.complete ≡ not (is_some (deepest_in (closing deepest opens.flags))) }
         ensures addresses { self.new.addresses ≡ self.old.addresses }
         ensures last { self.new.last ≡ self.old.last }
         ensures limit { self.new.limit ≡ self.old.limit }
     {
         self.opens = opens;
-        close(&mut self.opens, deepest);
-        self.complete = deepest_of(&self.opens).is_none();
+        self.opens.close(deepest);
+        self.complete = self.opens.deepest().is_none();
     }
 
     // The address read is the last one now, and is listed if it is right.
@@ -84,5 +81,16 @@ impl Listing {
         }
         let _ = self.addresses.push(address);
         Answer::Found { address }
+    }
+}
+
+impl From<Stop> for Answer {
+    ghost from_gives = { λ stop answer. meant answer ≡ closed_by stop };
+
+    fn from(stop: Stop) -> Answer {
+        match stop {
+            Stop::Silent => Answer::ClosedEmpty,
+            Stop::At { bit } => Answer::ClosedAt { bit },
+        }
     }
 }

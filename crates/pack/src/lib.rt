@@ -8,8 +8,8 @@ ghost use Rattle.gauge.specs.Measures.{in_range};
 ghost use Rattle.ds2760.specs.Runs.{slot, reset, tick, measure};
 ghost use Rattle.line.specs.declared.presence.Presence.TheVariants.{Present};
 ghost use Rattle.line.specs.Seats.{takes_seat, reset_seat};
-ghost use Rattle.line.specs.Lives.{LawfulHistory, FollowsBy, HistoriesAreLawful};
-ghost use Rattle.pack.specs.Lives.{LawfulSeat, FollowsSeat, LivesAreLawful};
+ghost use Rattle.line.specs.Lives.{LawfulHistory, FollowsBy};
+ghost use Rattle.pack.specs.Lives.{LawfulSeat, FollowsSeat};
 ghost use Rattle.pack.specs.Packs.{seat_of, new_seat, store_of, ticked_seat, measured_seat};
 
 use address::Address;
@@ -34,18 +34,11 @@ impl Pack {
         Pack::deaf(address, &eeprom)
     }
 
+    // By a reference, since that one is known to have 32 bytes.
     fn deaf(address: Address, eeprom: &[u8; 32]) -> Pack
         ensures made { seat_of result ≡ new_seat (number address) eeprom.now }
         ensures lawful { LawfulSeat (number address) eeprom.now [] (seat_of result) }
         ensures history { LawfulHistory (record { address = number address; eeprom = Some eeprom.now; calls = [] }) (seat_of result) }
-    {
-        laws();
-        histories();
-        Pack::seated(address, eeprom)
-    }
-
-    fn seated(address: Address, eeprom: &[u8; 32]) -> Pack
-        ensures { seat_of result ≡ new_seat (number address) eeprom.now }
     {
         Pack {
             tag: Tag::new(address),
@@ -61,24 +54,22 @@ impl Pack {
     }
 
     // Lets a tick pass.
+    #[tactic(auto, using(crate::proofs::Lives::followed, line::proofs::Lives::reached))]
     pub fn tick(&mut self)
         ensures after { seat_of self.new ≡ ticked_seat (seat_of self.old) }
         ensures lawful { FollowsSeat tick (seat_of self.old) (seat_of self.new) }
         ensures history { FollowsBy (tick ∷ []) (seat_of self.old) (seat_of self.new) }
     {
-        laws();
-        histories();
         self.store.tick();
     }
 
     // Takes a measurement, or refuses it and leaves all as it was.
+    #[tactic(auto, using(crate::proofs::Lives::followed, line::proofs::Lives::reached))]
     pub fn measure(&mut self, measurement: Measurement) -> Result<(), Refusal>
         ensures cases { MatchResult result (λ _. (in_range measurement ≡ true) × (seat_of self.new ≡ measured_seat measurement (seat_of self.old))) (λ _. (in_range measurement ≡ false) × (seat_of self.new ≡ seat_of self.old)) }
         ensures lawful { FollowsSeat (measure measurement) (seat_of self.old) (seat_of self.new) }
         ensures history { FollowsBy (measure measurement ∷ []) (seat_of self.old) (seat_of self.new) }
     {
-        laws();
-        histories();
         self.store.measure(measurement)
     }
 }
@@ -89,19 +80,19 @@ impl Line for Pack {
     ghost narrow = { λ p. (p.tag.narrow, tt) };
 
     fn drive(&self) -> bool {
-        if !self.tag.is_chosen() {
-            return self.tag.drive();
+        if self.tag.is_chosen() {
+            self.store.drive()
+        } else {
+            self.tag.drive()
         }
-        self.store.drive()
     }
 
+    #[tactic(auto, using(crate::proofs::Lives::followed, line::proofs::Lives::reached))]
     fn slot(&mut self, level: bool)
         ensures after { seat_of self.new ∷ [] ≡ map (takes_seat level) (seat_of self.old ∷ []) }
         ensures lawful { FollowsSeat (slot level) (seat_of self.old) (seat_of self.new) }
         ensures history { FollowsBy (slot level ∷ []) (seat_of self.old) (seat_of self.new) }
     {
-        laws();
-        histories();
         if self.tag.is_chosen() {
             self.store.slot(level);
         } else {
@@ -109,25 +100,14 @@ impl Line for Pack {
         }
     }
 
+    #[tactic(auto, using(crate::proofs::Lives::followed, line::proofs::Lives::reached))]
     fn reset(&mut self) -> Presence
         ensures present { result ≡ Present }
         ensures after { seat_of self.new ∷ [] ≡ map reset_seat (seat_of self.old ∷ []) }
         ensures lawful { FollowsSeat reset (seat_of self.old) (seat_of self.new) }
         ensures history { FollowsBy (reset ∷ []) (seat_of self.old) (seat_of self.new) }
     {
-        laws();
-        histories();
         self.store.reset();
         self.tag.reset()
     }
 }
-
-// Does nothing: a caller knows the law of a pack's life after it.
-fn laws()
-    ensures { LivesAreLawful }
-{}
-
-// Does nothing: a caller knows the law of a seat's history after it.
-fn histories()
-    ensures { HistoriesAreLawful }
-{}

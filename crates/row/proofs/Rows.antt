@@ -1,11 +1,13 @@
 -- A row of lines, one after the other. Assumes nothing.
-use Rattle.std.specs.Prelude.{◌≡◌, ℕ, ◌+◌, ◌<◌, ◌≤◌, Bool, true, false, ◌&&◌, ◌||◌, List, [], ◌∷◌, ◌++◌, map, length, get_or, take, drop, slice_index_or, slice_set, refl}
+use Rattle.std.specs.Prelude.{◌≡◌, ℕ, ◌+◌, ◌<◌, ◌≤◌, Bool, ◌&&◌, List, [], ◌∷◌, ◌++◌, map, length, get_or, take, drop, slice_index_or, slice_set, refl}
 use Rattle.std.proofs.Common.{ap, sym, subst, ◌∙◌, le_refl}
-use Rattle.std.specs.List.{flat_map}
+use Rattle.std.specs.List.{flat_map, list_all}
 use Rattle.std.proofs.lemmas.List.{take_more, take_more_set, take_all, take-append-le, drop_more, drop-set, drop_all, flat_map_more, map-append, length-set}
-use Rattle.std.proofs.lemmas.Bool.{both_ways}
-use Rattle.line.specs.Seats.{Seat, drives_line, occupied}
-use Rattle.line.proofs.Joins.{drives_join, occupied_join}
+use Rattle.line.specs.declared.presence.Presence.{Presence}
+use Rattle.line.specs.declared.presence.Presence.TheVariants.{Present, Empty}
+use Rattle.line.specs.Presences.{together}
+use Rattle.line.specs.Seats.{Seat, drives_line, occupied, presence}
+use Rattle.line.proofs.Joins.{drives_join, presence_join}
 
 heads : {A : Type 0} {x y : A} {xs ys : List A} → x ∷ xs ≡ y ∷ ys → x ≡ y
 heads e = cc
@@ -18,13 +20,11 @@ module _ {L : Type 0} (f : L → List Seat) where
   from_line : (xs : List L) (i : ℕ) (x : L) → i < length xs → x ≡ slice_index_or xs i x → flat_map f (drop i xs) ≡ f x ++ flat_map f (drop (i + 1) xs)
   from_line xs i x h e = ap (flat_map f) (drop_more xs i x h) ∙ ap (λ (y : L). f y ++ flat_map f (drop (i + 1) xs)) (sym e)
 
-  -- ---- what a row drives
-
-  pub drives_from : (xs : List L) (i : ℕ) (x : L) → i < length xs → x ≡ slice_index_or xs i x → drives_line (flat_map f (drop i xs)) ≡ (drives_line (f x) && drives_line (flat_map f (drop (i + 1) xs)))
-  drives_from xs i x h e = ap drives_line (from_line xs i x h e) ∙ drives_join (f x) (flat_map f (drop (i + 1) xs))
-
-  pub occupied_from : (xs : List L) (i : ℕ) (x : L) → i < length xs → x ≡ slice_index_or xs i x → occupied (flat_map f (drop i xs)) ≡ (occupied (f x) || occupied (flat_map f (drop (i + 1) xs)))
-  occupied_from xs i x h e = ap occupied (from_line xs i x h e) ∙ occupied_join (f x) (flat_map f (drop (i + 1) xs))
+  -- what the lines from line i on answer to a reset
+  pub presence_from : (xs : List L) (i : ℕ) (x : L) → i < length xs → x ≡ slice_index_or xs i x → presence (occupied (flat_map f (drop i xs))) ≡ together (presence (occupied (f x))) (presence (occupied (flat_map f (drop (i + 1) xs))))
+  presence_from xs i x h e =
+      ap (λ (l : List Seat). presence (occupied l)) (from_line xs i x h e)
+      ∙ sym (presence_join (presence (occupied (f x))) (presence (occupied (flat_map f (drop (i + 1) xs)))) _ (f x) (flat_map f (drop (i + 1) xs)) refl refl refl)
 
   -- none is left behind the last
   pub none_left : (xs : List L) (i : ℕ) → length xs ≤ i → flat_map f (drop i xs) ≡ []
@@ -75,21 +75,17 @@ module _ {L : Type 0} (f : L → List Seat) where
 pub given_back : {A : Type 0} (n : ℕ) (xs rest : List A) → length xs ≡ n → take n (xs ++ rest) ≡ xs
 given_back n xs rest e = take-append-le n xs rest (subst (λ (m : ℕ). m ≤ length xs) e (le_refl (length xs))) ∙ take_all n xs (subst (λ (m : ℕ). length xs ≤ m) e (le_refl (length xs)))
 
--- ---- tests
+-- ---- answers to a reset
 
--- one more line that drives nothing, or one that drives 0
-pub quiet_more : (d rest whole : Bool) → (d && rest) ≡ whole → d ≡ true → rest ≡ whole
-quiet_more true rest whole e q = e
-quiet_more false rest whole e q = absurd (both_ways false refl q)
+pub together_more : (p q r : Presence) → together (together p q) r ≡ together p (together q r)
+together_more Present q r = refl
+together_more Empty q r = refl
 
-pub zero_driven : (d rest whole : Bool) → (d && rest) ≡ whole → d ≡ false → false ≡ whole
-zero_driven true rest whole e q = absurd (both_ways true q refl)
-zero_driven false rest whole e q = e
+pub together_none : (p : Presence) → together p Empty ≡ p
+together_none Present = refl
+together_none Empty = refl
 
-pub or_more : (p o rest whole : Bool) → (p || (o || rest)) ≡ whole → ((p || o) || rest) ≡ whole
-or_more true o rest whole e = e
-or_more false o rest whole e = e
-
-pub or_none : (p : Bool) → (p || false) ≡ p
-or_none true = refl
-or_none false = refl
+-- a row drives 1 where all its lines do
+pub drives_all : {L : Type 0} (f : L → List Seat) (xs : List L) → drives_line (flat_map f xs) ≡ list_all (λ x. drives_line (f x)) xs
+drives_all f [] = refl
+drives_all f (x ∷ xs) = drives_join (f x) (flat_map f xs) ∙ ap (λ (b : Bool). drives_line (f x) && b) (drives_all f xs)

@@ -1,21 +1,10 @@
-use Rattle.std.proofs.Common.{◌≡◌, ℕ, ◌^◌, ◌<◌, Bool, map, ap, ◌∙◌, arith, rules}
+use Rattle.std.proofs.Common.{◌≡◌, ◌^◌, ◌<◌, map, ◌∙◌, rules}
 use Rattle.address.specs.Bits.{bits}
 use Rattle.address.specs.Parts.{number}
-use Rattle.line.specs.declared.stage.Stage.TheVariants.{Match}
-use Rattle.line.specs.Matching.{staged, chosen_by}
-use Rattle.line.specs.Sending.{sent_bit, sent}
-use Rattle.line.proofs.Staged.{reset_staged}
-use Rattle.line.proofs.Walks.{match_sent, walked, match_more, walk_ends, match_signals_lem}
+use Rattle.line.specs.Matching.{chosen_by}
+use Rattle.line.specs.Sending.{sent}
+use Rattle.line.proofs.Walks.{matched, match_signals_lem}
 use Rattle.line.proofs.choosing.walk_match.Goals as goal
-
-pub loop-k-preserved : goal.loop-k-preserved
-loop-k-preserved g c = λ ss e.
-    let a = number c.args.address in
-    let k = c.loop-k.k in
-    c.send_bit.ensures.after
-    ∙ ap (λ (b : Bool). sent_bit b (g.L.Line.seats c.loop-k.line)) c.bit.ensures
-    ∙ ap (sent_bit _) (c.loop-k.invariant ss e)
-    ∙ match_more a k ss c.loop-k-test.true
 
 pub returns : goal.returns
 returns g c =
@@ -23,11 +12,7 @@ returns g c =
     let ss = g.L.Line.seats c.args.line.now in
     let narrow = g.met.L.Line.narrow c.args.line.now in
     let small : a < 2 ^ 64 = search rules in
-    let start : g.L.Line.seats c.send_byte.new.line ≡ map (staged (walked Match a 0)) ss =
-    c.send_byte.ensures.after ∙ ap (sent (bits 0x55)) (c.reset.ensures.after ∙ reset_staged ss) ∙ match_sent ss in
-    let last : c.loop-k.k ≡ 64 = omega arith in
-    let chosen : g.L.Line.seats c.loop-k.line ≡ map (chosen_by a) ss =
-    c.loop-k.invariant ss start
-    ∙ ap (λ (k : ℕ). map (staged (walked Match a k)) ss) last
-    ∙ walk_ends Match a small ss narrow in
+    let commanded = c.send_byte.ensures.after ∙ (λ i. sent (bits (c.byte.ensures i)) (c.reset.ensures.after i)) in
+    let chosen : g.L.Line.seats c.send_bits.new.line ≡ map (chosen_by a) ss =
+    c.send_bits.ensures.after ∙ (λ i. sent (c.bits.ensures i) (commanded i)) ∙ matched a ss small narrow in
     record { chosen = chosen; given = chosen ∙ match_signals_lem a small ss narrow }

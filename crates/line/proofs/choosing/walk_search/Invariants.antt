@@ -6,7 +6,7 @@ use Rattle.line.proofs.Walks.{walked, search_at}
 use Rattle.line.proofs.choosing.walk_search.Given as goal
 
 -- each seat that began to search is as far as its bits agree
-abbrev pub invariant-loop-k : goal.invariant-loop-k
-invariant-loop-k g l =
-    (ss : List Seat) → g.L.Line.seats l.initial.line ≡ map (staged (walked search_at (number l.address) 0)) ss
-    → g.L.Line.seats l.line ≡ map (staged (walked search_at (number l.address) l.k)) ss
+abbrev pub invariant-loop-bit : goal.invariant-loop-bit
+invariant-loop-bit g l =
+    (ss : List Seat) → g.L.Line.seats l.initial.line ≡ map (staged (walked search_at (number l.fn.address) 0)) ss
+    → g.L.Line.seats l.line ≡ map (staged (walked search_at (number l.fn.address) l.bit-index)) ss

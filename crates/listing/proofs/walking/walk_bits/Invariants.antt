@@ -10,6 +10,6 @@ use Rattle.listing.proofs.walking.walk_bits.Given as goal
 -- the bits that are left lead to where all of them lead from the start
 abbrev pub invariant-loop-bit : goal.invariant-loop-bit
 invariant-loop-bit g l =
-    (l.sent < 2 ^ l.bit)
+    (number l.address < 2 ^ l.bit)
     × ((ss : List Seat) → g.L.Line.seats l.initial.line ≡ map (staged (λ _. Search 0 Bit)) ss
-    → Going ss l.deepest (number l.last) l.initial.opens (g.L.Line.seats l.initial.line) l.bit l.sent l.opens (g.L.Line.seats l.line))
+    → Going ss l.guide.deepest (number l.guide.last) l.initial.opens.flags (g.L.Line.seats l.initial.line) l.bit (number l.address) l.opens.flags (g.L.Line.seats l.line))

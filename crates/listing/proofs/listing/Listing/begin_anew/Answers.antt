@@ -1,10 +1,6 @@
-use Rattle.listing.specs.Meaning.{state_of}
-use Rattle.listing.proofs.Runs.{listings_are_truthful}
+use Rattle.std.proofs.Common.{rules}
+use Rattle.listing.proofs.Runs.{begins}
 use Rattle.listing.proofs.listing.Listing.begin_anew.Goals as goal
 
-pub returns : goal.returns
-returns c =
-    record {
-      begun = c.clear.ensures;
-      goes = listings_are_truthful.begins c.args.limit (state_of c.args.self.now) (state_of c.clear.new.self) c.requires c.clear.ensures;
-    }
+pub returns-clause-goes : goal.returns-clause-goes
+returns-clause-goes c = begins c.args.limit _ _ c.requires (search rules)

@@ -1,5 +1,0 @@
-use Rattle.line.proofs.Lives.{histories_are_lawful}
-use Rattle.line.proofs.tags.laws.Goals as goal
-
-pub returns : goal.returns
-returns c = histories_are_lawful
