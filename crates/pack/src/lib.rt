@@ -15,7 +15,7 @@ ghost use Rattle.pack.specs.Packs.{seat_of, new_seat, store_of, ticked_seat, mea
 use address::Address;
 use ds2760::Store;
 use gauge::{Measurement, Refusal};
-use line::{Line, Presence, Tag};
+use line::{Line, Presence, Stage, Tag};
 
 // Its address and stage are a tag's; once that is chosen, slots go to the store.
 #[derive(Clone, Copy)]
@@ -80,10 +80,9 @@ impl Line for Pack {
     ghost narrow = { λ p. (p.tag.narrow, tt) };
 
     fn drive(&self) -> bool {
-        if self.tag.is_chosen() {
-            self.store.drive()
-        } else {
-            self.tag.drive()
+        match self.tag.stage() {
+            Stage::Chosen => self.store.drive(),
+            _ => self.tag.drive(),
         }
     }
 
@@ -93,10 +92,9 @@ impl Line for Pack {
         ensures lawful { FollowsSeat (slot level) (seat_of self.old) (seat_of self.new) }
         ensures history { FollowsBy (slot level ∷ []) (seat_of self.old) (seat_of self.new) }
     {
-        if self.tag.is_chosen() {
-            self.store.slot(level);
-        } else {
-            self.tag.slot(level);
+        match self.tag.stage() {
+            Stage::Chosen => self.store.slot(level),
+            _ => self.tag.slot(level),
         }
     }
 
