@@ -1,5 +1,4 @@
 pub mod Tables
 pub mod Registers
-pub mod Bytes
 pub mod Division
 pub mod Digits

@@ -1,12 +1,12 @@
 -- A walk bit by bit, as a loop over 64 bits makes it. Assumes nothing.
-use Rattle.std.proofs.Common.{◌≡◌, ℕ, suc, ◌+◌, ◌-◌, ◌<◌, Bool, true, false, cond, not, List, [], ◌∷◌, ◌++◌, get_or, set, is_some, Some, Option, Err, refl, ap, ◌∙◌, add-one, arith}
+use Rattle.std.proofs.Common.{◌≡◌, ℕ, suc, ◌+◌, ◌-◌, ◌<◌, Bool, true, false, cond, not, List, [], ◌∷◌, ◌++◌, set, is_some, Option, Err, refl, ap, ◌∙◌, arith}
 use Rattle.std.proofs.lemmas.Bool.{cond-true, cond-false}
 use Rattle.line.specs.Searching.{answered}
 use Rattle.line.specs.Stages.{with_bit}
 use Rattle.listing.specs.declared.walk.Stop.{Stop}
 use Rattle.listing.specs.declared.walk.Stop.TheVariants.{Silent, At}
 use Rattle.listing.specs.Meaning.{walk_of}
-use Rattle.listing.specs.Rule.{State, stopped, reached, deepest_below, deepest, closing, passed_by, stops, wanted, forks, turned, walk, given, walk_levels}
+use Rattle.listing.specs.Rule.{State, stopped, reached, deepest, closing, passed_by, stops, wanted, forks, turned, walk, given, walk_levels}
 
 -- the walk stops at bit i
 abbrev pub halts : List ℕ → Option ℕ → ℕ → ℕ → ℕ → Bool
@@ -19,10 +19,6 @@ onward xs d last i sent = with_bit i (wanted d last i (answered false i sent xs)
 -- the flags, with bit i opened if it is
 abbrev pub flagged : List ℕ → Option ℕ → ℕ → ℕ → List Bool → List Bool
 flagged xs d i sent f = cond (forks d i (answered false i sent xs) (answered true i sent xs)) (set f i true) f
-
--- the deepest open bit, one flag more
-pub deepest_more : (i : ℕ) (f : List Bool) → deepest_below (i + 1) f ≡ cond (get_or f i false) (Some i) (deepest_below i f)
-deepest_more i f = ap (λ (n : ℕ). deepest_below n f) (add-one i)
 
 -- a walk with no bits left has reached its address
 pub walk_end : (xs : List ℕ) (d : Option ℕ) (last i sent : ℕ) (f : List Bool) → walk xs d last 0 i sent f ≡ reached sent f
