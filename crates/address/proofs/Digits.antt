@@ -1,5 +1,5 @@
 -- Hexadecimal digits. Assumes nothing.
-use Rattle.std.proofs.Common.{◌≡◌, ℕ, ◌+◌, ◌-◌, ◌^◌, ◌<◌, true, false, List, [], ◌++◌, length, get_or, take, sym, ap, ◌∙◌}
+use Rattle.std.proofs.Common.{◌≡◌, ℕ, ◌+◌, ◌-◌, ◌^◌, ◌<◌, true, false, List, [], ◌++◌, length, get_or, take, sym, ap, ◌∙◌, ltb, arith}
 use Rattle.std.specs.declared.fmt.Formatter.{Formatter}
 use Rattle.std.specs.Fmt.{IsPlainFormatter, HasWritten, digits, padded_integral, format_spec}
 use Rattle.std.specs.List.{flat_map}
@@ -7,7 +7,12 @@ use Rattle.std.proofs.Output.{writes_in_calls_nil}
 use Rattle.std.proofs.lemmas.Fmt as printed
 use Rattle.std.proofs.lemmas.Grind.{common_steps}
 use Rattle.std.proofs.lemmas.List.{take_more, flat_map_more}
-use Rattle.address.specs.Hexadecimal.{hex_byte, hexadecimal}
+use Rattle.std.proofs.lemmas.Bool.{cond_both}
+use Rattle.address.specs.Hexadecimal.{hex_digit, hex_byte, hexadecimal}
+
+-- a digit is ASCII
+pub hex_digit_ascii : (d : ℕ) → d < 16 → hex_digit d < 128
+hex_digit_ascii d h = cond_both (ltb d 10) (48 + d) (55 + d) (λ x. x < 128) (λ _. omega arith) (λ _. omega arith)
 
 -- what `{:02X}` writes of a byte
 pub byte_written : (n : ℕ) → n < 256 → padded_integral (format_spec 32 0 4 2 (2 ^ 64 - 1)) false [] (digits 16 true n) ≡ hex_byte n

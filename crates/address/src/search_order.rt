@@ -40,12 +40,14 @@ impl Ord for Address {
     }
 }
 
-// How two addresses stand in search order.
+// How two addresses stand in search order, by the lowest bit at which they differ. Where they are one
+// it is bit 64, which is 0 in both.
 fn compared(a: Address, b: Address) -> Ordering
     ensures value { result ≡ search_cmp a b }
     ensures answer { Ranking a b result }
     ensures law { StrictTotal Before }
     ensures sorts { TotalRanking Ranking }
 {
-    a.bits().cmp(&b.bits())
+    let first = (a.bits ^ b.bits).trailing_zeros();
+    a.bit(first).cmp(&b.bit(first))
 }
