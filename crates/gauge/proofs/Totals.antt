@@ -11,10 +11,10 @@ tested x y a b P p q false e = q (lt_z_no (subst (λ (t : Bool). T (not t)) (sym
 
 module _ (a r : ℤ) (a-low : negsuc 32767 ≤ℤ a) (a-high : a ≤ℤ pos 32767) where
   -- the parts of a and r, in a charge whose residue is in its range
-  record Held (q : Charge) : Type 0 where
-    total : total q ≡ capped (pos 180000 *ℤ a +ℤ r)
-    low : pos 0 ≤ℤ q.residue
-    high : q.residue <ℤ pos 180000
+  pub record Held (q : Charge) : Type 0 where
+    pub total : total q ≡ capped (pos 180000 *ℤ a +ℤ r)
+    pub low : pos 0 ≤ℤ q.residue
+    pub high : q.residue <ℤ pos 180000
 
   fallen_held : negsuc 179999 ≤ℤ r → r <ℤ pos 0 → Held (fallen a r)
   fallen_held p q =
@@ -26,7 +26,7 @@ module _ (a r : ℤ) (a-low : negsuc 32767 ≤ℤ a) (a-high : a ≤ℤ pos 3276
       tested a (pos 32767) _ _ Held (λ h. record { total = omega (arith, ints, clamps); low = omega (arith, ints); high = omega (arith, ints) })
       (λ h. record { total = omega (arith, ints, clamps); low = omega (arith, ints); high = omega (arith, ints) }) (lt_z a (pos 32767)) refl
 
-  settled_held : negsuc 179999 ≤ℤ r → r <ℤ pos 360000 → Held (settled a r)
+  pub settled_held : negsuc 179999 ≤ℤ r → r <ℤ pos 360000 → Held (settled a r)
   settled_held p q =
       tested r (pos 0) _ _ Held (fallen_held p)
       (λ h. tested r (pos 180000) _ _ Held (λ l. record { total = omega (arith, ints, clamps); low = h; high = l }) (λ l. risen_held l q) (lt_z r (pos 180000)) refl) (lt_z r (pos 0)) refl

@@ -1,6 +1,6 @@
 // What the current accumulator does with a count, and with a byte that is written.
 ghost use Rattle.std.specs.Prelude.{◌≡◌, pos, negsuc, ◌+ℤ◌, ◌*ℤ◌, ◌≤ℤ◌, ◌<ℤ◌, slice_index};
-ghost use Rattle.gauge.specs.Charges.{charge_of, whole, with_half, added, total, capped};
+ghost use Rattle.gauge.specs.Charges.{charge_of, whole, with_half, settled, added, total, capped};
 ghost use Rattle.gauge.specs.Held.{current_of};
 ghost use Rattle.gauge.specs.Registers.{register, decoded};
 
@@ -8,15 +8,21 @@ use crate::accumulator::{Accumulator, Half};
 use crate::counts::Counts;
 
 // How many parts make one step of the amount.
-const STEP: i64 = 180_000;
+const STEP: i32 = 180_000;
 
 // How many parts one current count adds.
-const PARTS: i64 = 11;
+const PARTS: i32 = 11;
 
-// The fewest and the most parts that can be held.
-const FEWEST: i64 = i16::MIN as i64 * STEP;
+// The least and the most that can be held.
+const LEAST: Accumulator = Accumulator {
+    amount: i16::MIN,
+    residue: 0,
+};
 
-const MOST: i64 = i16::MAX as i64 * STEP + STEP - 1;
+const MOST: Accumulator = Accumulator {
+    amount: i16::MAX,
+    residue: STEP as u32 - 1,
+};
 
 impl Accumulator {
     pub fn new() -> Accumulator
@@ -40,26 +46,45 @@ impl Accumulator {
         ensures step { charge_of result ≡ added (current_of counts.now) (charge_of self.now) }
         ensures total { total (charge_of result) ≡ capped (total (charge_of self.now) +ℤ pos 11 *ℤ current_of counts.now) }
     {
-        Accumulator::of(self.total() + PARTS * i64::from(counts.current.units))
+        Accumulator::settled(self.amount, self.sum(counts))
     }
 
-    // All that is held, in parts.
-    fn total(&self) -> i64
-        ensures value { result ≡ total (charge_of self.now) }
-        ensures low { negsuc 5898239999 ≤ℤ result }
-        ensures high { result ≤ℤ pos 5898239999 }
+    // The residue with what the count adds.
+    fn sum(&self, counts: &Counts) -> i32
+        ensures value { result ≡ (charge_of self.now).residue +ℤ pos 11 *ℤ current_of counts.now }
+        ensures low { negsuc 179999 ≤ℤ result }
+        ensures high { result <ℤ pos 360000 }
     {
-        STEP * i64::from(self.amount) + i64::from(self.residue)
+        self.residue as i32 + PARTS * i32::from(counts.current.units)
     }
 
-    // The accumulator with so many parts, or with the nearest that can be held.
-    fn of(parts: i64) -> Accumulator
-        ensures { total (charge_of result) ≡ capped parts }
+    // The accumulator of an amount and a residue that is at most one step outside its range.
+    fn settled(amount: i16, residue: i32) -> Accumulator
+        requires low { negsuc 179999 ≤ℤ residue }
+        requires high { residue <ℤ pos 360000 }
+        ensures { charge_of result ≡ settled amount residue }
     {
-        let parts = parts.clamp(FEWEST, MOST);
-        Accumulator {
-            amount: parts.div_euclid(STEP) as i16,
-            residue: parts.rem_euclid(STEP) as u32,
+        if residue < 0 {
+            match amount.checked_sub(1) {
+                Some(amount) => Accumulator {
+                    amount,
+                    residue: (residue + STEP) as u32,
+                },
+                None => LEAST,
+            }
+        } else if residue < STEP {
+            Accumulator {
+                amount,
+                residue: residue as u32,
+            }
+        } else {
+            match amount.checked_add(1) {
+                Some(amount) => Accumulator {
+                    amount,
+                    residue: (residue - STEP) as u32,
+                },
+                None => MOST,
+            }
         }
     }
 
@@ -81,5 +106,19 @@ impl Accumulator {
             Half::Low => [high, byte],
         };
         (self.amount, self.residue) = (i16::from_be_bytes(bytes), 0);
+    }
+
+    // Sets the higher byte of the amount, and clears the residue.
+    pub fn write_high(&mut self, byte: u8)
+        ensures { charge_of self.new ≡ whole (decoded byte (slice_index (register (charge_of self.old).amount) 1)) }
+    {
+        self.write(Half::High, byte);
+    }
+
+    // Sets the lower byte of the amount, and clears the residue.
+    pub fn write_low(&mut self, byte: u8)
+        ensures { charge_of self.new ≡ whole (decoded (slice_index (register (charge_of self.old).amount) 0) byte) }
+    {
+        self.write(Half::Low, byte);
     }
 }

@@ -1,21 +1,19 @@
-use Rattle.std.proofs.Common.{◌≡◌, pos, ◌+ℤ◌, ◌*ℤ◌, ◌∙◌, ap, arith, w64, to_z, of_z}
+use Rattle.std.proofs.Common.{◌≡◌, pos, ◌+ℤ◌, ◌*ℤ◌, ap, ◌∙◌, arith, w16, w32, to_z, of_z}
 use Rattle.std.proofs.lemmas.Int.{ints}
-use Rattle.gauge.specs.Charges.{charge_of, total, capped}
-use Rattle.gauge.proofs.Totals.{parts_added}
+use Rattle.gauge.specs.Charges.{charge_of, settled, added, total, capped}
+use Rattle.gauge.proofs.Totals.{settled_held}
 use Rattle.gauge.proofs.accumulator.Accumulator.after.Goals as goal
 
 pub returns : goal.returns
 returns c =
     let p = charge_of c.args.self.now in
-    let q = charge_of c.of.result in
+    let a = c.args.self.now.amount in
+    let s = c.sum.result in
     let n = c.args.counts.now.current.units in
-    let t = c.total.result in
-    let u = c.from.result in
-    let k = c.total.ensures in
-    let u-is : u ≡ n = c.from.ensures ∙ omega (arith, ints) in
-    let parts : to_z w64 (of_z w64 (to_z w64 (of_z w64 t) +ℤ to_z w64 (of_z w64 (pos 11 *ℤ to_z w64 (of_z w64 u))))) ≡ total p +ℤ pos 11 *ℤ n = omega (arith, ints, k.value, k.low, k.high, u-is) in
-    let is = c.of.ensures ∙ ap capped parts in
-    record {
-      step = parts_added p q n (omega (arith, ints, k.value, k.low)) (omega (arith, ints, k.value, k.high)) (omega (arith, ints)) (omega (arith, ints)) (omega (arith, ints)) (omega (arith, ints)) (omega (arith, ints)) (omega (arith, ints)) is;
-      total = is;
-    }
+    let k = c.sum.ensures in
+    let a-is : to_z w16 (of_z w16 a) ≡ a = omega (arith, ints) in
+    let s-is : to_z w32 (of_z w32 s) ≡ p.residue +ℤ pos 11 *ℤ n = omega (arith, ints, k.value, k.low, k.high) in
+    let step : charge_of c.settled.result ≡ added n p = c.settled.ensures ∙ (λ i. settled (a-is i) (s-is i)) in
+    let h = settled_held a (p.residue +ℤ pos 11 *ℤ n) (omega (arith, ints)) (omega (arith, ints)) (omega (arith, ints)) (omega (arith, ints)) in
+    let parts : pos 180000 *ℤ a +ℤ (p.residue +ℤ pos 11 *ℤ n) ≡ total p +ℤ pos 11 *ℤ n = omega (arith, ints) in
+    record { step = step; total = ap total step ∙ h.total ∙ ap capped parts }
