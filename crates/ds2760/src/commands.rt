@@ -3,7 +3,7 @@ ghost use Rattle.std.specs.Prelude.{◌≡◌, ◌<◌, ◌≤◌, true, false, 
 ghost use Rattle.ds2760.specs.Commands.{opcode_taken, asked, next_of, read_byte, read_on, data_taken, taken, slotted, drives, after_reset, made};
 ghost use Rattle.ds2760.specs.Effects.{Whole, WritesReadBack, RecallsRestore};
 ghost use Rattle.ds2760.specs.Meaning.{state_of};
-ghost use Rattle.ds2760.specs.Runs.{Lawful, Follows, slot, reset};
+ghost use Rattle.ds2760.specs.Runs.{Lawful, Follows, RunsAreLawful, slot, reset};
 ghost use Rattle.ds2760.specs.Soundness.{waits};
 
 use crate::block::{Block, Locks};
@@ -24,10 +24,11 @@ fn next(address: u16) -> u16
 
 impl Store {
     // A new store with these EEPROM bytes, in address order. Both blocks are recalled.
-    #[tactic(auto, using(crate::proofs::Runs::new_is_lawful))]
+    #[tactic(auto, using(crate::proofs::Runs::new_is_lawful, crate::proofs::Runs::runs_are_lawful))]
     pub fn new(eeprom: [u8; 32]) -> Store
         ensures made { state_of result ≡ made eeprom }
         ensures lawful { Lawful eeprom [] (state_of result) }
+        ensures runs { RunsAreLawful }
     {
         Store {
             protection: 0,

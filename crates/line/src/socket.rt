@@ -2,7 +2,7 @@
 ghost use Rattle.std.specs.Prelude.{◌≡◌, true, false, map, MatchResult};
 ghost use Rattle.line.specs.Seats.{takes_seat, reset_seat, drives_line, occupied, presence, through};
 ghost use Rattle.line.specs.Sockets.{number_of, is_attached};
-ghost use Rattle.line.specs.Strings.{SocketFollows, attaching, nothing};
+ghost use Rattle.line.specs.Strings.{SocketFollows, SocketsFollow, attaching, nothing};
 ghost use Rattle.line.specs.SocketLineLemmas.{either};
 
 use crate::Line;
@@ -43,10 +43,11 @@ impl<L: Line> Socket<L> {
     }
 
     // Attaches the line, and gives it a reset.
-    #[tactic(auto, using(crate::proofs::Strings::attached_by, crate::proofs::Strings::already_by))]
+    #[tactic(auto, using(crate::proofs::Strings::attached_by, crate::proofs::Strings::already_by, crate::proofs::Strings::sockets_follow))]
     pub fn attach(&mut self) -> Result<(), Refusal>
         ensures cases { MatchResult result (λ _. (is_attached self.old ≡ false) × (is_attached self.new ≡ true) × (L.Line.seats self.new.line ≡ map reset_seat (L.Line.seats self.old.line))) (λ _. (is_attached self.old ≡ true) × (self.new ≡ self.old)) }
         ensures lives { SocketFollows (is_attached self.old) (is_attached self.new) (map (attaching (is_attached self.old)) (L.Line.seats self.old.line)) (L.Line.seats self.old.line) (L.Line.seats self.new.line) }
+        ensures sockets { SocketsFollow }
     {
         if self.attached {
             return Err(Refusal::Already);

@@ -2,7 +2,7 @@
 ghost use Rattle.std.specs.Prelude.{◌≡◌, [], ◌∷◌, None};
 ghost use Rattle.address.specs.Parts.{number};
 ghost use Rattle.line.specs.Kinds.{seat_of, new_seat};
-ghost use Rattle.line.specs.Lives.{LawfulHistory};
+ghost use Rattle.line.specs.Lives.{LawfulHistory, HistoriesAreLawful};
 ghost use Rattle.line.specs.Seats.{is_chosen};
 
 use crate::Line;
@@ -14,10 +14,11 @@ use address::Address;
 
 impl Tag {
     // A tag with this address, deaf.
-    #[tactic(auto, using(crate::proofs::Lives::tag_made))]
+    #[tactic(auto, using(crate::proofs::Lives::tag_made, crate::proofs::Lives::histories_are_lawful))]
     pub fn new(address: Address) -> Tag
         ensures made { seat_of result ≡ new_seat (number address) }
         ensures lawful { LawfulHistory (record { address = number address; eeprom = None; calls = [] }) (seat_of result) }
+        ensures histories { HistoriesAreLawful }
     {
         Tag {
             address,

@@ -1,8 +1,8 @@
 -- The law of a pack's life, from that of its seat's history. Assumes nothing.
-use Rattle.std.proofs.Common.{◌≡◌, ℕ, List, [], ◌∷◌, ◌++◌, length, Some, refl, ap, sym, ◌∙◌}
-use Rattle.ds2760.specs.Runs.{Call}
-use Rattle.line.specs.Lives.{reaches, life, History, itself, LeadsTo}
-use Rattle.line.specs.Seats.{Seat}
+use Rattle.std.proofs.Common.{◌≡◌, ℕ, cond, List, [], ◌∷◌, ◌++◌, length, Some, refl, ap, sym, ◌∙◌}
+use Rattle.ds2760.specs.Runs.{Call, slot, reset, tick, measure}
+use Rattle.line.specs.Lives.{reaches, life, store_calls, History, itself, LeadsTo}
+use Rattle.line.specs.Seats.{Seat, is_chosen}
 use Rattle.line.proofs.Lives.{life_none, life_append, life_one, lawful_history, reached_itself}
 use Rattle.pack.specs.Lives.{LawfulSeat, FollowsSeat, LivesAreLawful}
 use Rattle.pack.specs.Packs.{new_seat}
@@ -12,6 +12,15 @@ by_itself : (cs : List Call) (s : Seat) → itself (life cs s) ≡ life cs (itse
 unfolding life
 by_itself [] s = refl
 by_itself (c ∷ cs) s = by_itself cs (reaches c s) ∙ ap (life cs) (reached_itself c s)
+
+-- the same calls reach its store
+same_calls : (cs : List Call) (s : Seat) → store_calls cs s ≡ store_calls cs (itself s)
+unfolding store_calls
+same_calls [] s = refl
+same_calls (slot level ∷ cs) s = ap (λ (l : List Call). cond (is_chosen s.stage) (slot level ∷ l) l) (same_calls cs (reaches (slot level) s))
+same_calls (reset ∷ cs) s = ap (λ (l : List Call). reset ∷ l) (same_calls cs (reaches reset s))
+same_calls (tick ∷ cs) s = ap (λ (l : List Call). tick ∷ l) (same_calls cs (reaches tick s))
+same_calls (measure m ∷ cs) s = ap (λ (l : List Call). measure m ∷ l) (same_calls cs (reaches (measure m) s))
 
 same_bytes : {x y : List ℕ} → Some x ≡ Some y → x ≡ y
 same_bytes e = cc

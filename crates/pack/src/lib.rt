@@ -9,7 +9,7 @@ ghost use Rattle.ds2760.specs.Runs.{slot, reset, tick, measure};
 ghost use Rattle.line.specs.declared.presence.Presence.TheVariants.{Present};
 ghost use Rattle.line.specs.Seats.{takes_seat, reset_seat};
 ghost use Rattle.line.specs.Lives.{LawfulHistory, FollowsBy};
-ghost use Rattle.pack.specs.Lives.{LawfulSeat, FollowsSeat};
+ghost use Rattle.pack.specs.Lives.{LawfulSeat, FollowsSeat, LivesAreLawful};
 ghost use Rattle.pack.specs.Packs.{seat_of, new_seat, store_of, ticked_seat, measured_seat};
 
 use address::Address;
@@ -26,10 +26,12 @@ pub struct Pack {
 
 impl Pack {
     // A pack with this address and these EEPROM bytes, deaf.
+    #[tactic(auto, using(crate::proofs::Lives::lives_are_lawful))]
     pub fn new(address: Address, eeprom: [u8; 32]) -> Pack
         ensures made { seat_of result ≡ new_seat (number address) eeprom }
         ensures lawful { LawfulSeat (number address) eeprom [] (seat_of result) }
         ensures history { LawfulHistory (record { address = number address; eeprom = Some eeprom; calls = [] }) (seat_of result) }
+        ensures lives { LivesAreLawful }
     {
         Pack::deaf(address, &eeprom)
     }
