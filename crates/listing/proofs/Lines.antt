@@ -84,11 +84,11 @@ quiet_slot true ss e = ap (λ (b : Bool). map (takes_seat b) ss) e
 quiet_slot false ss e = refl
 
 -- what the value to send is
-wants : (b x y : Bool) (i : ℕ) → Ok y ≡ (if b then Err (At i) else Ok x) → (b ≡ false) × (y ≡ x)
+pub wants : (b x y : Bool) (i : ℕ) → Ok y ≡ (if b then Err (At i) else Ok x) → (b ≡ false) × (y ≡ x)
 wants true x y i e = let z : ◌≡◌ {A = ℕ} 0 1 = cc in absurd (omega arith)
 wants false x y i e = (refl, cc)
 
-wants_none : (b x : Bool) (i : ℕ) (s : Stop) → Err s ≡ (if b then Err (At i) else Ok x) → (b ≡ true) × (s ≡ At i)
+pub wants_none : (b x : Bool) (i : ℕ) (s : Stop) → Err s ≡ (if b then Err (At i) else Ok x) → (b ≡ true) × (s ≡ At i)
 wants_none true x i s e = (refl, cc)
 wants_none false x i s e = let z : ◌≡◌ {A = ℕ} 0 1 = cc in absurd (omega arith)
 

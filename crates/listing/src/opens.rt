@@ -18,7 +18,8 @@ impl Opens {
     // The deepest open bit.
     #[tactic(auto, using(crate::proofs::Flags::deepest_is))]
     pub(crate) fn deepest(&self) -> Option<u8>
-        ensures { result ≡ deepest_in self.now.flags }
+        ensures value { result ≡ deepest_in self.now.flags }
+        ensures below { IfSome result (λ k. k < 64) }
     {
         last_open(&self.flags).map(|bit| bit as u8)
     }
