@@ -1,11 +1,17 @@
 -- Where a well-formed rack file has what. Assumes nothing.
-use Rattle.std.proofs.Common.{◌≡◌, ℕ, zero, suc, ◌+◌, ◌-◌, ◌*◌, ◌<◌, ◌≤◌, List, [], ◌∷◌, map, length, length-drop, take, drop, get_or, ap, ◌∙◌, mul-add, arith}
+use Rattle.std.proofs.Common.{◌≡◌, ℕ, zero, suc, ◌+◌, ◌-◌, ◌*◌, ◌<◌, ◌≤◌, List, [], ◌∷◌, map, length, length-drop, take, drop, get_or, ap, ◌∙◌, mul_comm, mul-le-mul_left, mul-add, arith}
 use Rattle.std.proofs.lemmas.List.{take_all, drop-drop, get_or-map, length-map}
 use Rattle.std.proofs.lemmas.List.FromFn.{fill_by_all}
 use Rattle.std.specs.List.{range_with_len}
 use Rattle.std.specs.Simd.{first_chunks}
 use Rattle.rackfile.specs.declared.Entry.{Entry}
 use Rattle.rackfile.specs.Files.{WellFormed, Listed, count, width, entry_in, entries_in, listed}
+
+-- the name of an entry lies within the file
+pub name_within : (f : List ℕ) → WellFormed f → (i : ℕ) → i < count f → 2 + 8 * count f + width f * i + width f ≤ length f
+name_within f form i h =
+    let le : i + 1 ≤ count f = omega arith in
+    omega (arith, form.whole, mul-le-mul_left (width f) le, mul-add (width f) i 1, mul-add (count f) 8 (width f), mul_comm (width f) (count f))
 
 -- the address of an entry lies within the file
 pub address_within : (f : List ℕ) → WellFormed f → (i : ℕ) → i < count f → 2 + 8 * i + 8 ≤ length f

@@ -25,9 +25,12 @@ impl Layout<'_> {
         requires { Sound self.now }
         ensures { IfOk result (λ v. map listed v.items ≡ entries_in self.now) }
     {
-        (0..self.count)
-            .map(|index| self.entry(index).read(heap))
-            .try_collect(heap)
+        // room for all is taken once, since growing by doubling would take more
+        let mut entries = Vec::with_capacity(heap, self.count)?;
+        for entry in (0..self.count).map(|index| self.entry(index).read(heap)) {
+            entries.push(entry?)?;
+        }
+        Ok(entries)
     }
 }
 

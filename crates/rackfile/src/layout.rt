@@ -1,7 +1,8 @@
 // Where a rack file has what.
-ghost use Rattle.std.specs.Prelude.{◌≡◌, ◌<◌, MatchResult};
+ghost use Rattle.std.specs.Prelude.{◌≡◌, ◌<◌, IfErr, MatchResult};
 ghost use Rattle.address.specs.Parts.{number};
-ghost use Rattle.rackfile.specs.Files.{count, address_at, name_at};
+ghost use Rattle.rackfile.specs.declared.Refusal.TheVariants.{Malformed};
+ghost use Rattle.rackfile.specs.Files.{count, address_at, name_at, WellFormed};
 ghost use Rattle.rackfile.specs.Refusals.{First};
 
 use crate::Refusal;
@@ -39,9 +40,11 @@ pub(crate) struct RawEntry<'a> {
 }
 
 impl<'a> Layout<'a> {
-    // The layout of a well-formed file.
+    // The layout of a well-formed file. Only a file that is not well-formed is refused here: `check`
+    // looks for flaws.
     pub(crate) fn read(bytes: &'a [u8]) -> Result<Layout<'a>, Refusal>
-        ensures { MatchResult result (λ l. l ≡ bytes.now) (λ e. First bytes.now e) }
+        ensures cases { MatchResult result (λ l. l ≡ bytes.now) (λ e. First bytes.now e) }
+        ensures malformed { IfErr result (λ e. (e ≡ Malformed) × (WellFormed bytes.now → ⊥)) }
     {
         let &[count, width, ..] = bytes else {
             return Err(Refusal::Malformed);

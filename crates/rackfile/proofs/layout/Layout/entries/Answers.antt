@@ -1,27 +1,37 @@
-use Rattle.std.proofs.Common.{◌≡◌, ℕ, ◌<◌, length, get_or, vec_items, IsUtf8, rules}
-use Rattle.std.proofs.iter.runs.Sources.{ranges}
+use Rattle.std.proofs.Common.{◌≡◌, ◌<◌, vec_items, IsUtf8, rules, arith}
 use Rattle.std.proofs.lemmas.Iterator.{serves_from_Range}
-use Rattle.std.proofs.lemmas.Result.{IfOk-weaker}
-use Rattle.rackfile.specs.declared.Entry.{Entry}
+use Rattle.std.proofs.lemmas.List.{get_or_append_left, get_or_push}
 use Rattle.rackfile.specs.Files.{count, entry_in, listed, name_at}
 use Rattle.rackfile.proofs.Names.{name_utf8}
 use Rattle.rackfile.proofs.Places.{entries_by_all}
 use Rattle.rackfile.proofs.layout.Layout.entries.Goals as goal
 
-pub try_collect-requires-clause-can : goal.try_collect-requires-clause-can
-try_collect-requires-clause-can c =
+pub loop-entry-init : goal.loop-entry-init
+loop-entry-init c =
     let f = c.args.self.now in (
+      (
+        tt,
+        serves_from_Range (λ x q h. search rules) (λ x low high.
+            let l : x < count f = search rules in
+            let text : IsUtf8 (name_at f x) = name_utf8 f c.requires x l in
+            search (rules, text)),
+      ),
       tt,
-      serves_from_Range (λ x q h. search rules) (λ x low high.
-          let l : x < count f = search rules in
-          let text : IsUtf8 (name_at f x) = name_utf8 f c.requires x l in
-          search (rules, text)),
+      search rules,
+      search rules,
+      λ k d l. search rules,
+    )
+
+pub loop-entry-preserved : goal.loop-entry-preserved
+loop-entry-preserved c =
+    let new : listed c.in_ok-entry.field-0 ≡ entry_in c.args.self.now c.loop-entry.entry-iterator.iter.start = search rules in (
+      search rules,
+      tt,
+      search rules,
+      search rules,
+      λ k d l. search (arith, new, get_or_append_left, get_or_push),
     )
 
 pub returns : goal.returns
 returns c =
-    let f = c.args.self.now in
-    IfOk-weaker c.try_collect.result _ _ (λ v h.
-    let long : length (vec_items v) ≡ count f = search (rules, ranges) in
-    let each : (k : ℕ) (d : Entry) → k < count f → listed (get_or (vec_items v) k d) ≡ entry_in f k = λ k d l. search (rules, ranges) in
-    entries_by_all f (vec_items v) long each) c.try_collect.ensures.runs
+    entries_by_all c.args.self.now (vec_items c.loop-entry.entries) (search rules) (λ k d l. search rules)
