@@ -17,7 +17,7 @@ bit_beyond n w k h l =
     ap (λ (m : ℕ). eqb (m % 2) 1) (div-eq_of_lt (lt_of_lt_of_le h (pow-le-pow_right two l)))
 
 -- the bits of one place tell the remainders
-odd_same : (a b : ℕ) (t : Bool) → eqb (a % 2) 1 ≡ t → eqb (b % 2) 1 ≡ t → a % 2 ≡ b % 2
+pub odd_same : (a b : ℕ) (t : Bool) → eqb (a % 2) 1 ≡ t → eqb (b % 2) 1 ≡ t → a % 2 ≡ b % 2
 odd_same a b true p q = eqb-true _ _ p ∙ sym (eqb-true _ _ q)
 odd_same a b false p q =
     let x : a % 2 ≡ 1 → ⊥ = eqb-false (a % 2) 1 p in

@@ -52,7 +52,7 @@ search_order = record { irreflexive = irreflexive; transitive = transitive; tota
 -- ---- the order as a function, for sorted collections
 
 -- one bit more decides where the bits below it did not
-one_bit_more : (k a b : ℕ) (r : Ordering) (s t : Bool) → MatchOrdering r (Before a b) (Agree k a b) (Before b a) → bit k a ≡ s → bit k b ≡ t → MatchOrdering (ordering_then r (bool_cmp s t)) (Before a b) (Agree (suc k) a b) (Before b a)
+pub one_bit_more : (k a b : ℕ) (r : Ordering) (s t : Bool) → MatchOrdering r (Before a b) (Agree k a b) (Before b a) → bit k a ≡ s → bit k b ≡ t → MatchOrdering (ordering_then r (bool_cmp s t)) (Before a b) (Agree (suc k) a b) (Before b a)
 one_bit_more k a b Less s t h p q = h
 one_bit_more k a b Greater s t h p q = h
 one_bit_more k a b Equal true true h p q = subst (λ (m : ℕ). Agree m a b) (add-one k) (agree_more k a b h (p ∙ sym q))
